@@ -1,0 +1,132 @@
+// The half-edge boundary of a solid: its rows, the edits that change it and the numbers by which an edit is refused.
+ghost use mathlib.Core.Path.{_≡_};
+ghost use Rattle.boundary.specs.Operators.{empty};
+ghost use Rattle.boundary.specs.Refusals.{code};
+
+pub const SHELLS: usize = 8;
+
+pub const FACES: usize = 96;
+
+pub const LOOPS: usize = 96;
+
+pub const EDGES: usize = 192;
+
+pub const VERTICES: usize = 128;
+
+// A point in whole 1/256 mm.
+#[derive(Clone, Copy)]
+pub struct Point {
+    pub x: i32,
+    pub y: i32,
+    pub z: i32,
+}
+
+// The vertex that a half-edge starts at, the half-edge after it in its ring, and the loop that it lies on.
+#[derive(Clone, Copy)]
+pub struct HalfEdge {
+    pub start: u16,
+    pub next: u16,
+    pub owner: u16,
+}
+
+// Edge k owns the half-edges 2k (even) and 2k + 1 (odd), which are mates.
+#[derive(Clone, Copy)]
+pub struct Edge {
+    pub even: HalfEdge,
+    pub odd: HalfEdge,
+}
+
+// A loop lies in a face, and has a lone vertex where it has no half-edge.
+#[derive(Clone, Copy)]
+pub struct Loop {
+    pub face: u16,
+    pub lone: Option<u16>,
+}
+
+#[derive(Clone, Copy)]
+pub struct Face {
+    pub shell: u16,
+    pub outer: u16,
+}
+
+#[derive(Clone, Copy)]
+pub struct Shell;
+
+// A row that is `None` is unused. `handles` counts the handles made so far.
+#[derive(Clone, Copy)]
+pub struct Boundary {
+    pub shells: [Option<Shell>; 8],
+    pub faces: [Option<Face>; 96],
+    pub loops: [Option<Loop>; 96],
+    pub edges: [Option<Edge>; 192],
+    pub vertices: [Option<Point>; 128],
+    pub handles: u32,
+}
+
+// An edit as it is asked for: its numbers may lie outside every range. The loop that mvfs and mef make is the outer one of the face that they make.
+#[derive(Clone, Copy)]
+pub enum Edit {
+    Mvfs {
+        shell: i32,
+        face: i32,
+        outer: i32,
+        vertex: i32,
+        at: Point,
+    },
+    Mev {
+        place: i32,
+        edge: i32,
+        vertex: i32,
+        at: Point,
+    },
+    Mef {
+        from: i32,
+        to: i32,
+        edge: i32,
+        face: i32,
+        outer: i32,
+    },
+}
+
+// Why an edit is refused.
+#[derive(Clone, Copy, PartialEq, Eq, Debug)]
+pub enum Refusal {
+    // a number or a coordinate out of its range
+    OutOfRange,
+    // it names something unused
+    Unused,
+    // it makes something used
+    Taken,
+    // it breaks the operator's condition
+    Condition,
+}
+
+impl Refusal {
+    // The number by which a user is told of it.
+    pub fn number(self) -> u8
+        ensures { λ r. ⌜ r ≡ code self ⌝ }
+    {
+        match self {
+            Refusal::OutOfRange => 1,
+            Refusal::Taken => 2,
+            Refusal::Unused => 3,
+            Refusal::Condition => 4,
+        }
+    }
+}
+
+impl Boundary {
+    // No row is used.
+    pub fn empty() -> Boundary
+        ensures { λ r. ⌜ r ≡ empty ⌝ }
+    {
+        Boundary {
+            shells: [None; 8],
+            faces: [None; 96],
+            loops: [None; 96],
+            edges: [None; 192],
+            vertices: [None; 128],
+            handles: 0,
+        }
+    }
+}
