@@ -44,8 +44,11 @@ led-half h x e = record { start = e .start; next = cond (eqb (e .next) h) x (e .
 abbrev pub led-edge : ℕ → ℕ → Edge → Edge
 led-edge h x e = record { even = led-half h x (e .even); odd = led-half h x (e .odd) }
 
+abbrev pub led-in : List (Option Edge) → ℕ → ℕ → List (Option Edge)
+led-in es h x = map (mapped (led-edge h x)) es
+
 abbrev pub led : Boundary → ℕ → ℕ → Boundary
-led b h x = with-edges b (map (mapped (led-edge h x)) (b .edges))
+led b h x = with-edges b (led-in (b .edges) h x)
 
 abbrev pub owned-half : ℕ → HalfEdge → HalfEdge
 owned-half l e = record { start = e .start; next = e .next; owner = l }
@@ -55,9 +58,12 @@ abbrev pub owned-side : Bool → ℕ → Edge → Edge
 owned-side true l e = record { even = owned-half l (e .even); odd = e .odd }
 owned-side false l e = record { even = e .even; odd = owned-half l (e .odd) }
 
-abbrev pub owned-one : Boundary → ℕ → ℕ → Boundary
-owned-one b h l = with-edges b (set (b .edges) (h / 2) (mapped (owned-side (even h) l) (row (b .edges) (h / 2))))
+abbrev pub owned-one : List (Option Edge) → ℕ → ℕ → List (Option Edge)
+owned-one es h l = set es (h / 2) (mapped (owned-side (even h) l) (row es (h / 2)))
+
+abbrev pub owned-in : List (Option Edge) → List ℕ → ℕ → List (Option Edge)
+owned-in es [] l = es
+owned-in es (h ∷ hs) l = owned-in (owned-one es h l) hs l
 
 abbrev pub owned : Boundary → List ℕ → ℕ → Boundary
-owned b [] l = b
-owned b (h ∷ hs) l = owned (owned-one b h l) hs l
+owned b hs l = with-edges b (owned-in (b .edges) hs l)

@@ -55,12 +55,12 @@ abbrev pub mef : Boundary → ℕ → ℕ → ℕ → ℕ → ℕ → Boundary
 mef b h j k f l =
     put-loop (put-face (put-edge (led (led (owned b (run (next b) 384 h j) l) h (2 * k)) j (2 * k + 1)) k (edge (half-edge (start b h) j (owner b h)) (half-edge (start b j) h l))) f (record { shell = loop-shell b (owner b h); outer = l })) l (record { face = f; lone = None })
 
--- the number that a field of an accepted edit names
+-- the number that a field names; one that no table is long enough for names 0
 abbrev pub named : ℤ → ℕ
-named (pos n) = n
+named (pos n) = cond (ltb n 65536) n 0
 named (negsuc n) = 0
 
-abbrev pub applied : Boundary → Edit → Boundary
+unfoldable pub applied : Boundary → Edit → Boundary
 applied b (Mvfs a f l v p) = mvfs b (named a) (named f) (named l) (named v) p
 applied b (Mev a k v p) = mev b (named a) (named k) (named v) p
 applied b (Mef h j k f l) = mef b (named h) (named j) (named k) (named f) (named l)

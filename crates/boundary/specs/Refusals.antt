@@ -1,4 +1,5 @@
 -- Which edits are refused, and why: out of range comes first, then the use of something unused, then the making of something used, then the operator's own condition.
+--     in-range e      every number of the edit e is in its range
 --     refusal b e     why the boundary b refuses the edit e, if it does
 --     after b e       the boundary after the edit e, which is as before where it is refused
 --     answer o        what a caller is answered
@@ -71,34 +72,48 @@ place-used b a = cond (ltb a 512) (half-used b a) (used (b .loops) (a - 512))
 abbrev pub has-vertex : Boundary → ℕ → Bool
 has-vertex b a = cond (ltb a 512) true (isSome (lone b (a - 512)))
 
-abbrev pub free : {X : Type 0} → List (Option X) → ℤ → Bool
-free t k = not (used t (named k))
+abbrev pub free : {X : Type 0} → List (Option X) → ℕ → Bool
+free t k = not (used t k)
 
 -- where the test fails that is the reason, else what follows
 abbrev pub unless : Bool → Refusal → Option Refusal → Option Refusal
 unless true why others = others
 unless false why others = Some why
 
-abbrev pub refusal : Boundary → Edit → Option Refusal
-refusal b (Mvfs a f l v p) =
-    unless (is-shell a && (is-face f && (is-loop l && (is-vertex v && is-point p)))) OutOfRange
-    (unless (free (b .shells) a && (free (b .faces) f && (free (b .loops) l && free (b .vertices) v))) Taken None)
-refusal b (Mev a k v p) =
-    unless (is-place a && (is-edge k && (is-vertex v && is-point p))) OutOfRange
-    (unless (place-used b (named a)) Unused
+abbrev pub in-range : Edit → Bool
+in-range (Mvfs a f l v p) = is-shell a && (is-face f && (is-loop l && (is-vertex v && is-point p)))
+in-range (Mev a k v p) = is-place a && (is-edge k && (is-vertex v && is-point p))
+in-range (Mef h j k f l) = is-half h && (is-half j && (is-edge k && (is-face f && is-loop l)))
+
+abbrev pub mvfs-refusal : Boundary → ℕ → ℕ → ℕ → ℕ → Option Refusal
+mvfs-refusal b a f l v = unless (free (b .shells) a && (free (b .faces) f && (free (b .loops) l && free (b .vertices) v))) Taken None
+
+abbrev pub mev-refusal : Boundary → ℕ → ℕ → ℕ → Option Refusal
+mev-refusal b a k v =
+    unless (place-used b a) Unused
     (unless (free (b .edges) k && free (b .vertices) v) Taken
-    (unless (has-vertex b (named a)) Condition None)))
-refusal b (Mef h j k f l) =
-    unless (is-half h && (is-half j && (is-edge k && (is-face f && is-loop l)))) OutOfRange
-    (unless (half-used b (named h) && half-used b (named j)) Unused
+    (unless (has-vertex b a) Condition None))
+
+abbrev pub mef-refusal : Boundary → ℕ → ℕ → ℕ → ℕ → ℕ → Option Refusal
+mef-refusal b h j k f l =
+    unless (half-used b h && half-used b j) Unused
     (unless (free (b .edges) k && (free (b .faces) f && free (b .loops) l)) Taken
-    (unless (not (eqb (named h) (named j)) && eqb (owner b (named h)) (owner b (named j))) Condition None)))
+    (unless (not (eqb h j) && eqb (owner b h) (owner b j)) Condition None))
+
+-- the refusal of an edit whose numbers are in range
+unfoldable pub refusal-within : Boundary → Edit → Option Refusal
+refusal-within b (Mvfs a f l v p) = mvfs-refusal b (named a) (named f) (named l) (named v)
+refusal-within b (Mev a k v p) = mev-refusal b (named a) (named k) (named v)
+refusal-within b (Mef h j k f l) = mef-refusal b (named h) (named j) (named k) (named f) (named l)
+
+unfoldable pub refusal : Boundary → Edit → Option Refusal
+refusal b e = unless (in-range e) OutOfRange (refusal-within b e)
 
 abbrev pub unchanged : {X : Type 0} → Option Refusal → X → X → X
 unchanged None old new = new
 unchanged (Some why) old new = old
 
-abbrev pub after : Boundary → Edit → Boundary
+unfoldable pub after : Boundary → Edit → Boundary
 after b e = unchanged (refusal b e) b (applied b e)
 
 abbrev pub answer : Option Refusal → Result (Unit {0}) Refusal

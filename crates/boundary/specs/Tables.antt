@@ -42,8 +42,15 @@ side (Some e) false = e .odd
 abbrev pub even : ℕ → Bool
 even h = eqb (h % 2) 0
 
+-- the half-edge h of a table of edges
+abbrev pub half-in : List (Option Edge) → ℕ → HalfEdge
+half-in es h = side (row es (h / 2)) (even h)
+
+abbrev pub next-in : List (Option Edge) → ℕ → ℕ
+next-in es h = half-in es h .next
+
 abbrev pub half : Boundary → ℕ → HalfEdge
-half b h = side (row (b .edges) (h / 2)) (even h)
+half b h = half-in (b .edges) h
 
 abbrev pub start : Boundary → ℕ → ℕ
 start b h = half b h .start
@@ -78,6 +85,6 @@ abbrev pub loop-shell : Boundary → ℕ → ℕ
 loop-shell b l = shell-of (row (b .faces) (face-of (row (b .loops) l)))
 
 -- the `let` keeps a computation from going on behind the end
-abbrev pub run : (ℕ → ℕ) → ℕ → ℕ → ℕ → List ℕ
+unfoldable pub run : (ℕ → ℕ) → ℕ → ℕ → ℕ → List ℕ
 run f zero h k = []
 run f (suc n) h k = let on : List ℕ = h ∷ run f n (f h) k in cond (eqb h k) [] on

@@ -2,6 +2,7 @@
 ghost use mathlib.Core.Path.{_≡_};
 ghost use Rattle.boundary.specs.Operators.{empty};
 ghost use Rattle.boundary.specs.Refusals.{code};
+ghost use Rattle.boundary.specs.Tables.{row, half-in};
 
 pub const SHELLS: usize = 8;
 
@@ -113,6 +114,31 @@ impl Refusal {
             Refusal::Condition => 4,
         }
     }
+}
+
+// A row of a table; there is none past its end.
+pub fn row<T: Copy>(rows: &[Option<T>], k: u16) -> Option<T>
+    ensures { λ r. ⌜ r ≡ row (now (rows .entry)) k ⌝ }
+{
+    if (k as usize) < rows.len() {
+        rows[k as usize]
+    } else {
+        None
+    }
+}
+
+// The half-edge `h` of a table of edges; an unused one reads as zeros.
+pub fn half(edges: &[Option<Edge>], h: u16) -> HalfEdge
+    ensures { λ r. ⌜ r ≡ half-in (now (edges .entry)) h ⌝ }
+{
+    let Some(edge) = row(edges, h / 2) else {
+        return HalfEdge {
+            start: 0,
+            next: 0,
+            owner: 0,
+        };
+    };
+    if h % 2 == 0 { edge.even } else { edge.odd }
 }
 
 impl Boundary {
