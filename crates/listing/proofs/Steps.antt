@@ -55,17 +55,17 @@ unfoldable pub left : (ℕ → ℕ) → ℕ → ℕ → ℕ → List ℕ
 left f n h k = words (map decimal (run f n h k))
 
 pub left-stop : (f : ℕ → ℕ) (n h k : ℕ) → h ≡ k → left f n h k ≡ 10 ∷ []
-unfolding left
+unfolding left run
 left-stop f zero h k same = refl
 left-stop f (suc n) h k same = ap (λ t. words (map decimal (cond t [] (h ∷ run f n (f h) k)))) (eq-eqb h k same)
 
 -- c of n turns are done
 pub left-past : (f : ℕ → ℕ) (n c h k : ℕ) → n ≤ c → left f (n - c) h k ≡ 10 ∷ []
-unfolding left
+unfolding left run
 left-past f n c h k le = let none : n - c ≡ 0 = omega arith in ap (λ m. left f m h k) none
 
 left-suc : (f : ℕ → ℕ) (n h k : ℕ) → (h ≡ k → ⊥) → left f (suc n) h k ≡ (32 ∷ decimal h) ++ left f n (f h) k
-unfolding left
+unfolding left run
 left-suc f n h k apart = ap (λ t. words (map decimal (cond t [] (h ∷ run f n (f h) k)))) (ne-eqb h k apart)
 
 pub left-more : (f : ℕ → ℕ) (n c h g k : ℕ) → c < n → (h ≡ k → ⊥) → g ≡ f h → left f (n - c) h k ≡ (32 ∷ decimal h) ++ left f (n - (c + 1)) g k
@@ -74,7 +74,7 @@ left-more f n c h g k lt apart on =
     ap (λ m. left f m h k) one ∙ left-suc f (n - (c + 1)) h k apart ∙ ap (λ x. (32 ∷ decimal h) ++ left f (n - (c + 1)) x k) (sym on)
 
 ring-begins : (f : ℕ → ℕ) (n h : ℕ) → words (map decimal (h ∷ run f n (f h) h)) ≡ (32 ∷ decimal h) ++ left f n (f h) h
-unfolding left
+unfolding left run
 ring-begins f n h = refl
 
 -- its first half-edge, what followed up to the end of the loop, and the line feed

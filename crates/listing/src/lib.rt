@@ -1,30 +1,25 @@
 // A boundary as text: a line of its counts, and then a line for each used row.
 ghost use mathlib.Core.Path.{_≡_};
 ghost use mathlib.Core.List.{List, _++_, map};
-ghost use Prim.Native.Nat.{ℕ, _/_};
+ghost use Prim.Native.Nat.{ℕ};
 ghost use Rattle.std.specs.Of.String.{string-bytes};
 ghost use Rattle.std.specs.Vec.{made};
 ghost use Rattle.std.specs.Written.{decimal};
 ghost use Rattle.boundary.specs.declared.Boundary.{Boundary};
-ghost use Rattle.boundary.specs.Tables.{count, row, half};
+ghost use Rattle.boundary.specs.Tables.{count};
 ghost use Rattle.listing.specs.Listing.{words, counted, counts-line, vertex-line, edge-line, face-line, loop-line, lies-on, smallest, ring, place, row-line, lines, listed};
 use boundary::Boundary;
 use boundary::Edge;
 use boundary::Face;
-use boundary::HalfEdge;
 use boundary::Loop;
 use boundary::Point;
+use boundary::half;
+use boundary::row;
 use std::alloc::AllocError;
 use std::alloc::Global;
 use std::fmt;
 
 const HALF_EDGES: u16 = 384;
-
-const BLANK: HalfEdge = HalfEdge {
-    start: 0,
-    next: 0,
-    owner: 0,
-};
 
 // How many rows of each table are used, and the handles.
 #[derive(Clone, Copy)]
@@ -85,30 +80,11 @@ impl Row for Loop as LoopRow {
     }
 }
 
-// The edge that the half-edge `h` is of, if it is used.
-fn edge_of(b: &Boundary, h: u16) -> Option<Edge>
-    ensures { λ r. ⌜ r ≡ row (now (b .entry) .edges) (h / 2) ⌝ }
-{
-    let edges: &[Option<Edge>] = &b.edges;
-    let k = (h / 2) as usize;
-    if k < edges.len() { edges[k] } else { None }
-}
-
-// The half-edge `h`, which is blank if it is unused.
-fn read_half(b: &Boundary, h: u16) -> HalfEdge
-    ensures { λ r. ⌜ r ≡ half (now (b .entry)) h ⌝ }
-{
-    match edge_of(b, h) {
-        None => BLANK,
-        Some(edge) => { if h % 2 == 0 { edge.even } else { edge.odd } }
-    }
-}
-
 // Whether the half-edge `h` is used and lies on the loop `l`.
 fn lies_on(b: &Boundary, l: usize, h: u16) -> bool
     ensures { λ r. ⌜ r ≡ lies-on (now (b .entry)) l h ⌝ }
 {
-    edge_of(b, h).is_some() && read_half(b, h).owner as usize == l
+    row(&b.edges, h / 2).is_some() && half(&b.edges, h).owner as usize == l
 }
 
 // The smallest half-edge that is used and lies on the loop `l`.
@@ -128,13 +104,13 @@ fn write_ring(start: u16, b: &Boundary, out: &mut String) -> fmt::Result
     ensures { λ r. ⌜ made r (λ _. string-bytes (now (out .exit)) ≡ string-bytes (now (out .entry)) ++ words (map decimal (ring (now (b .entry)) start))) ⌝ }
 {
     write!(out, " {start}")?;
-    let mut h = read_half(b, start).next;
+    let mut h = half(&b.edges, start).next;
     for _ in 1..HALF_EDGES {
         if h == start {
             break;
         }
         write!(out, " {h}")?;
-        h = read_half(b, h).next;
+        h = half(&b.edges, h).next;
     }
     writeln!(out)?;
     Ok(())
@@ -236,71 +212,5 @@ pub fn listing(heap: Global, b: &Boundary) -> Result<String, AllocError>
     match write_all(b, &mut out) {
         Ok(()) => Ok(out),
         Err(_) => Err(AllocError),
-    }
-}
-
-#[cfg(test)]
-mod tests {
-    use super::*;
-    use boundary::Shell;
-    use std::test::*;
-
-    #[test]
-    fn empty(rt: LibcRuntime) -> Result<(), Fail> {
-        let text = listing(rt.alloc(), &Boundary::empty())?;
-        check_eq(text.as_str(), "c 0 0 0 0 0 0\n")
-    }
-
-    fn half(start: u16, next: u16, owner: u16) -> HalfEdge {
-        HalfEdge { start, next, owner }
-    }
-
-    // A triangle of two faces, and a loop with a lone vertex.
-    #[test]
-    fn triangle(rt: LibcRuntime) -> Result<(), Fail> {
-        let mut b = Boundary::empty();
-        b.vertices[0] = Some(Point { x: 0, y: 0, z: 0 });
-        b.vertices[1] = Some(Point { x: 256, y: 0, z: 0 });
-        b.vertices[2] = Some(Point {
-            x: 256,
-            y: 256,
-            z: -1,
-        });
-        b.edges[0] = Some(Edge {
-            even: half(0, 2, 1),
-            odd: half(1, 4, 0),
-        });
-        b.edges[1] = Some(Edge {
-            even: half(1, 5, 1),
-            odd: half(2, 1, 0),
-        });
-        b.edges[2] = Some(Edge {
-            even: half(0, 3, 0),
-            odd: half(2, 0, 1),
-        });
-        b.faces[0] = Some(Face { shell: 0, outer: 0 });
-        b.faces[1] = Some(Face { shell: 0, outer: 1 });
-        b.loops[0] = Some(Loop {
-            face: 0,
-            lone: None,
-        });
-        b.loops[1] = Some(Loop {
-            face: 1,
-            lone: None,
-        });
-        b.loops[5] = Some(Loop {
-            face: 0,
-            lone: Some(7),
-        });
-        b.loops[6] = Some(Loop {
-            face: 0,
-            lone: None,
-        });
-        b.shells[0] = Some(Shell);
-        let text = listing(rt.alloc(), &b)?;
-        check_eq(
-            text.as_str(),
-            "c 3 3 2 4 1 0\nv 0 0 0 0\nv 1 256 0 0\nv 2 256 256 -1\ne 0 0 1\ne 1 1 2\ne 2 0 2\nf 0 0 0\nf 1 0 1\nl 0 0 1 4 3\nl 1 1 0 2 5\nl 5 0 v 7\nl 6 0\n",
-        )
     }
 }

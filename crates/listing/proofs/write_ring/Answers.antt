@@ -10,12 +10,12 @@ use Rattle.listing.proofs.write_ring.Needs.{else-loop-test, then-loop-test·th
 
 pub loop-holds : need.loop-holds
 loop-holds c =
-    ap (λ e. string-bytes (c .write .last .self) ++ left (next (c .args .b .now)) 383 (e .next) (c .args .start)) (c .read-half-h .ensures)
+    ap (λ e. string-bytes (c .write .last .self) ++ left (next (c .args .b .now)) 383 (e .next) (c .args .start)) (c .half-h .ensures)
 
 pub loop-again : need.loop-again
 loop-again c =
     written _ _ (32 ∷ decimal (c .loop .h)) _ _ _ (c .in-Continue-write-2 .ensures tt .bytes)
-    (left-more (next (c .args .b .now)) 384 (c .loop .counter) (c .loop .h) (c .read-half-h-in-loop .result .next) (c .args .start) (c .loop-test .taken) (c .if-h-start .left) (ap (λ e. e .next) (c .read-half-h-in-loop .ensures)))
+    (left-more (next (c .args .b .now)) 384 (c .loop .counter) (c .loop .h) (c .half-h-in-loop .result .next) (c .args .start) (c .loop-test .taken) (c .if-h-start .left) (ap (λ e. e .next) (c .half-h-in-loop .ensures)))
     (c .loop .inv)
 
 pub returns : need.returns
