@@ -35,6 +35,7 @@ counts-line n = codes "c" ++ words (decimal (n .vertices) ∷ decimal (n .edges)
 abbrev pub vertex-line : ℕ → Point → List ℕ
 vertex-line k p = codes "v" ++ words (decimal k ∷ signed (p .x) ∷ signed (p .y) ∷ signed (p .z) ∷ [])
 
+-- the starts of its even and its odd half-edge
 abbrev pub edge-line : ℕ → Edge → List ℕ
 edge-line k e = codes "e" ++ words (decimal k ∷ decimal (e .even .start) ∷ decimal (e .odd .start) ∷ [])
 
@@ -50,14 +51,16 @@ unfoldable pub smallest : (ℕ → Bool) → ℕ → ℕ → Option ℕ
 smallest test zero h = None
 smallest test (suc n) h = cond (test h) (Some h) (smallest test n (h + 1))
 
+-- at most 384 half-edges, which makes it total on every table
 unfoldable pub ring : Boundary → ℕ → List ℕ
 ring b h = h ∷ run (next b) 383 (next b h) h
 
--- the ring from its smallest half-edge on, if it has one
+-- the words of the ring from the half-edge on, and none where there is no half-edge
 abbrev pub around : Boundary → Option ℕ → List (List ℕ)
 around b None = []
 around b (Some h) = map decimal (ring b h)
 
+-- its lone vertex, or else its ring from the smallest half-edge on
 abbrev pub place : Boundary → ℕ → Option ℕ → List (List ℕ)
 place b l (Some v) = codes "v" ∷ decimal v ∷ []
 place b l None = around b (smallest (lies-on b l) 384 0)
@@ -78,5 +81,6 @@ lines-from text k (r ∷ t) = row-line text k r ++ lines-from text (k + 1) t
 abbrev pub lines : {X : Type 0} → (ℕ → X → List ℕ) → List (Option X) → List ℕ
 lines text t = lines-from text 0 t
 
+-- the counts, the vertices, the edges, the faces and the loops
 unfoldable pub listed : Boundary → List ℕ
 listed b = counts-line (counted b) ++ lines vertex-line (b .vertices) ++ lines edge-line (b .edges) ++ lines face-line (b .faces) ++ lines (loop-line b) (b .loops)

@@ -19,6 +19,7 @@ use std::alloc::AllocError;
 use std::alloc::Global;
 use std::fmt;
 
+// Two of each edge.
 const HALF_EDGES: u16 = 384;
 
 // How many rows of each table are used, and the handles.
@@ -162,6 +163,7 @@ fn used_rows<T>(rows: &[Option<T>]) -> usize
     n
 }
 
+// Counts what is used.
 fn counts_of(b: &Boundary) -> Counts
     ensures { λ r. ⌜ r ≡ counted (now (b .entry)) ⌝ }
 {
@@ -175,6 +177,7 @@ fn counts_of(b: &Boundary) -> Counts
     }
 }
 
+// Writes the line of the counts.
 fn write_counts(counts: Counts, out: &mut String) -> fmt::Result
     ensures { λ r. ⌜ made r (λ _. string-bytes (now (out .exit)) ≡ string-bytes (now (out .entry)) ++ counts-line counts) ⌝ }
 {
@@ -193,6 +196,7 @@ fn write_counts(counts: Counts, out: &mut String) -> fmt::Result
     Ok(())
 }
 
+// Writes the whole listing.
 fn write_all(b: &Boundary, out: &mut String) -> fmt::Result
     ensures { λ r. ⌜ made r (λ _. string-bytes (now (out .exit)) ≡ string-bytes (now (out .entry)) ++ listed (now (b .entry))) ⌝ }
 {

@@ -217,7 +217,8 @@ impl Solid {
     pub fn boundary(&self) -> &Boundary
         ensures { λ r. ⌜ now r ≡ now (self .entry) .boundary ⌝ }
     {
-        &self.boundary
+        let rows = &self.boundary;
+        rows
     }
 
     fn mvfs(
@@ -355,25 +356,26 @@ impl Solid {
         }
     }
 
-    fn mef_between(&mut self, h: u16, j: u16, k: u16, f: u16, l: u16)
+    // The run from `from` to just before `to`, closed by 2k + 1, is the outer loop `l` of the face `f`; the rest, closed by 2k, stays.
+    fn mef_between(&mut self, from: u16, to: u16, k: u16, f: u16, l: u16)
         requires { ⌜ k < 192 ⌝ ∗ ⌜ f < 96 ⌝ ∗ ⌜ l < 96 ⌝ }
-        ensures { λ _. ⌜ now (self .exit) .boundary ≡ mef (now (self .entry) .boundary) h j k f l ⌝ }
+        ensures { λ _. ⌜ now (self .exit) .boundary ≡ mef (now (self .entry) .boundary) from to k f l ⌝ }
     {
-        let first = half(&self.boundary.edges, h);
-        let second = half(&self.boundary.edges, j);
+        let first = half(&self.boundary.edges, from);
+        let second = half(&self.boundary.edges, to);
         let shell = self.loop_shell(first.owner);
-        own_run(&mut self.boundary.edges, h, j, l);
-        lead(&mut self.boundary.edges, h, 2 * k);
-        lead(&mut self.boundary.edges, j, 2 * k + 1);
+        own_run(&mut self.boundary.edges, from, to, l);
+        lead(&mut self.boundary.edges, from, 2 * k);
+        lead(&mut self.boundary.edges, to, 2 * k + 1);
         self.boundary.edges[k as usize] = Some(Edge {
             even: HalfEdge {
                 start: first.start,
-                next: j,
+                next: to,
                 owner: first.owner,
             },
             odd: HalfEdge {
                 start: second.start,
-                next: h,
+                next: from,
                 owner: l,
             },
         });

@@ -11,4 +11,4 @@ returns c =
     let b = c .args .b .now in
     let o = string-bytes (c .args .out .now) in
     all-written o (counts-line (counted b)) (lines vertex-line (b .vertices)) (lines edge-line (b .edges)) (lines face-line (b .faces)) (lines (loop-line b) (b .loops)) (string-bytes (c .write-counts .last .out)) (string-bytes (c .write-rows .last .out)) (string-bytes (c .write-rows-2 .last .out)) (string-bytes (c .write-rows-3 .last .out)) (string-bytes (c .write-rows-4 .last .out))
-    (c .in-Continue-write-counts .ensures tt ∙ ap (λ n. o ++ counts-line n) (c .counts-of .ensures)) (c .in-Continue-write-rows .ensures tt) (c .in-Continue-write-rows-2 .ensures tt) (c .in-Continue-write-rows-3 .ensures tt) (c .in-Continue-write-rows-4 .ensures tt)
+    (_∙_ {b = o ++ counts-line (c .counts-of .result)} (c .in-Continue-write-counts .ensures tt) (ap (λ n. o ++ counts-line n) (c .counts-of .ensures))) (c .in-Continue-write-rows .ensures tt) (c .in-Continue-write-rows-2 .ensures tt) (c .in-Continue-write-rows-3 .ensures tt) (c .in-Continue-write-rows-4 .ensures tt)
