@@ -1,14 +1,17 @@
 // Draws a solid from lines of edits: a reply to each line, and then the listing of the solid.
 ghost use mathlib.Core.Path.{_≡_};
 ghost use mathlib.Core.List.{_++_};
+ghost use Prim.Native.Nat.{_≤_};
+ghost use lib.ListN.{length, take};
 ghost use Rattle.std.specs.Of.String.{string-bytes};
 ghost use Rattle.std.specs.Vec.{made};
 ghost use Rattle.std.specs.shelf.Text.{sameBytes};
-ghost use Rattle.words.specs.Words.{tokens};
-ghost use Rattle.words.specs.Left.{tokens-left, part, text};
+ghost use Rattle.boundary.specs.Operators.{empty};
+ghost use Rattle.words.specs.Words.{lines, tokens};
+ghost use Rattle.words.specs.Left.{tokens-left, part, text-of};
 ghost use Rattle.drawing.specs.declared.Fault.the-variants.{Refused};
 ghost use Rattle.drawing.specs.Commands.{operator, numbers, edit, asked};
-ghost use Rattle.drawing.specs.Drawing.{code, done, left, reply, after-line, shown, line-shown, drawn};
+ghost use Rattle.drawing.specs.Drawing.{code, done, left, line-reply, after-line, shown, line-shown, drawn-from, drawn};
 use boundary::Edit;
 use boundary::Point;
 use boundary::Refusal;
@@ -150,7 +153,7 @@ impl Operator {
 
 // The operator that a token names.
 fn operator_of(token: Token<'_>) -> Option<Operator>
-    ensures { λ r. ⌜ r ≡ operator (text (token .entry)) ⌝ }
+    ensures { λ r. ⌜ r ≡ operator (text-of (token .entry)) ⌝ }
 {
     match token {
         Token::Word { text, .. } => Operator::named(text),
@@ -175,7 +178,7 @@ fn perform(solid: &mut Solid, first: Token<'_>, rest: &mut Line<'_>) -> Result<(
 
 // Does what the line with the number `line` asks for.
 fn reply_to(solid: &mut Solid, bytes: &[u8], line: usize) -> Option<Reply>
-    ensures reply { λ r. ⌜ r ≡ reply line (now (solid .entry) .boundary) (tokens 0 (now (bytes .entry))) ⌝ }
+    ensures reply { λ r. ⌜ r ≡ line-reply line (now (solid .entry) .boundary) (tokens 0 (now (bytes .entry))) ⌝ }
     ensures left { λ _. ⌜ now (solid .exit) .boundary ≡ after-line (now (solid .entry) .boundary) (tokens 0 (now (bytes .entry))) ⌝ }
 {
     let mut rest = Line::new(bytes);
@@ -212,12 +215,24 @@ fn write_reply(heap: Global, reply: Option<Reply>, out: &mut String) -> Result<(
     out.push_str(text.as_str())
 }
 
-// The replies to the lines of an input, and then the listing of the solid that they leave.
-pub fn draw(heap: Global, input: &[u8]) -> Result<String, AllocError>
-    ensures { λ r. ⌜ made r (λ t. string-bytes t ≡ drawn (now (input .entry))) ⌝ }
+// What is looked at of an input.
+fn front(input: &[u8]) -> &[u8]
+    ensures value { λ r. ⌜ now r ≡ take 32768 (now (input .entry)) ⌝ }
+    ensures len { λ r. ⌜ length (now r) ≤ 32768 ⌝ }
 {
-    let size = input.len().min(LIMIT);
-    let mut lines = Lines::new(&input[0..size]);
+    if input.len() > LIMIT {
+        &input[0..LIMIT]
+    } else {
+        input
+    }
+}
+
+// The replies to the lines, and then the listing of the solid that they leave.
+fn draw_lines(heap: Global, input: &[u8]) -> Result<String, AllocError>
+    requires { ⌜ length (now input) ≤ 32768 ⌝ }
+    ensures { λ r. ⌜ made r (λ t. string-bytes t ≡ drawn-from 1 empty (lines (now (input .entry)))) ⌝ }
+{
+    let mut lines = Lines::new(input);
     let mut solid = Solid::empty();
     let mut out = String::new(heap);
     let mut number: usize = 1;
@@ -229,4 +244,11 @@ pub fn draw(heap: Global, input: &[u8]) -> Result<String, AllocError>
     let listed = listing::listing(heap, solid.boundary())?;
     out.push_str(listed.as_str())?;
     Ok(out)
+}
+
+// The whole text that is written for an input.
+pub fn draw(heap: Global, input: &[u8]) -> Result<String, AllocError>
+    ensures { λ r. ⌜ made r (λ t. string-bytes t ≡ drawn (now (input .entry))) ⌝ }
+{
+    draw_lines(heap, front(input))
 }

@@ -8,7 +8,7 @@ ghost use Rattle.std.specs.Options.{mapped};
 ghost use Rattle.std.specs.Slices.{found};
 ghost use Rattle.std.specs.shelf.Lists.{leading};
 ghost use Rattle.words.specs.Words.{lines, words, tokens, numeral, number, first, others};
-ghost use Rattle.words.specs.Left.{lines-behind, lines-left, tokens-left, words-left, part, text, Lies, Taken};
+ghost use Rattle.words.specs.Left.{lines-behind, lines-left, tokens-left, words-left, part, text-of, Lies, Taken};
 
 // The lines of an input that are not taken yet: none is left behind the last.
 #[derive(Clone, Copy)]
@@ -156,7 +156,7 @@ impl<'a> Line<'a> {
     pub fn next_token(&mut self) -> Option<Token<'a>>
         ensures token { λ r. ⌜ mapped part r ≡ first (tokens-left (now (self .entry))) ⌝ }
         ensures left { λ r. ⌜ tokens-left (now (self .exit)) ≡ others (tokens-left (now (self .entry))) ⌝ }
-        ensures word { λ r. ⌜ mapped text r ≡ first (words-left (now (self .entry))) ⌝ }
+        ensures word { λ r. ⌜ mapped text-of r ≡ first (words-left (now (self .entry))) ⌝ }
         ensures words { λ r. ⌜ words-left (now (self .exit)) ≡ others (words-left (now (self .entry))) ⌝ }
         ensures lies { λ r. ⌜ found r (λ t. Lies t (now (now (self .entry) .bytes))) ⌝ }
         ensures bytes { λ r. ⌜ now (self .exit) .bytes ≡ now (self .entry) .bytes ⌝ }

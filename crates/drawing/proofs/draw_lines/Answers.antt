@@ -5,16 +5,11 @@ use Rattle.std.specs.Of.String.{string-bytes}
 use Rattle.listing.specs.Listing.{listed}
 use Rattle.words.specs.Left.{lines-left}
 use Rattle.drawing.specs.Drawing.{line-shown}
-use Rattle.drawing.proofs.Turns.{start, few-lines, drawn-more, drawn-all, fewer}
-use Rattle.drawing.proofs.draw.Needs as need
+use Rattle.drawing.proofs.Turns.{few-lines, drawn-more, drawn-all, fewer}
+use Rattle.drawing.proofs.draw_lines.Needs as need
 
 pub loop-line-holds : need.loop-line-holds
-loop-line-holds c =
-    let lines = c .new-lines .ensures in
-    let size = c .min-size .ensures in (
-      rw (c .new-out .ensures .bytes, c .empty-solid .ensures, lines) (start (c .args .input .now) _ size),
-      rw lines (few-lines (c .args .input .now) _ size),
-    )
+loop-line-holds c = let lines = c .new-lines .ensures in (rw (c .new-out .ensures .bytes, c .empty-solid .ensures, lines), rw lines (few-lines (c .args .input .now) (c .pre)))
 
 pub loop-line-again : need.loop-line-again
 loop-line-again c =
