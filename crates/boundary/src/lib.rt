@@ -64,9 +64,11 @@ pub struct Boundary {
     pub handles: u32,
 }
 
-// An edit as it is asked for: its numbers may lie outside every range. The loop that mvfs and mef make is the outer one of the face that they make.
+// An edit as it is asked for: its numbers may lie outside every range.
+// A place is a half-edge, 0 to 383, or the loop 512 below it, 512 to 607.
 #[derive(Clone, Copy)]
 pub enum Edit {
+    // makes a shell, a face, its outer loop and on that a lone vertex
     Mvfs {
         shell: i32,
         face: i32,
@@ -74,12 +76,18 @@ pub enum Edit {
         vertex: i32,
         at: Point,
     },
+    // takes a shell away that has no more than mvfs makes
+    Kvfs { shell: i32 },
+    // makes an edge from a place to a new vertex
     Mev {
         place: i32,
         edge: i32,
         vertex: i32,
         at: Point,
     },
+    // takes an edge away, and the vertex at its end
+    Kev { half: i32 },
+    // makes an edge between two half-edges of a loop, which splits off a face and its outer loop
     Mef {
         from: i32,
         to: i32,
@@ -87,6 +95,16 @@ pub enum Edit {
         face: i32,
         outer: i32,
     },
+    // takes an edge between two loops away, and the face on its own side
+    Kef { half: i32 },
+    // takes an edge away, which splits an inner loop off
+    Kemr { half: i32, inner: i32 },
+    // makes an edge between two loops of a face, which joins the inner one to the other
+    Mekr { to: i32, inner: i32, edge: i32 },
+    // makes the one loop of a face an inner loop of another face
+    Kfmrh { kept: i32, killed: i32 },
+    // gives a vertex another place in space
+    Move { vertex: i32, at: Point },
 }
 
 // Why an edit is refused.
