@@ -77,7 +77,9 @@ pub enum Edit {
         at: Point,
     },
     // takes a shell away that has no more than mvfs makes
-    Kvfs { shell: i32 },
+    Kvfs {
+        shell: i32,
+    },
     // makes an edge from a place to a new vertex
     Mev {
         place: i32,
@@ -86,7 +88,9 @@ pub enum Edit {
         at: Point,
     },
     // takes an edge away, and the vertex at its end
-    Kev { half: i32 },
+    Kev {
+        half: i32,
+    },
     // makes an edge between two half-edges of a loop, which splits off a face and its outer loop
     Mef {
         from: i32,
@@ -96,15 +100,30 @@ pub enum Edit {
         outer: i32,
     },
     // takes an edge between two loops away, and the face on its own side
-    Kef { half: i32 },
+    Kef {
+        half: i32,
+    },
     // takes an edge away, which splits an inner loop off
-    Kemr { half: i32, inner: i32 },
+    Kemr {
+        half: i32,
+        inner: i32,
+    },
     // makes an edge between two loops of a face, which joins the inner one to the other
-    Mekr { to: i32, inner: i32, edge: i32 },
+    Mekr {
+        to: i32,
+        inner: i32,
+        edge: i32,
+    },
     // makes the one loop of a face an inner loop of another face
-    Kfmrh { kept: i32, killed: i32 },
+    Kfmrh {
+        kept: i32,
+        killed: i32,
+    },
     // gives a vertex another place in space
-    Move { vertex: i32, at: Point },
+    Move {
+        vertex: i32,
+        at: Point,
+    },
 }
 
 // Why an edit is refused.
