@@ -18,9 +18,9 @@ use Rattle.boundary.specs.declared.Edge.{Edge}
 use Rattle.boundary.specs.declared.Boundary.{Boundary}
 use Rattle.boundary.specs.Tables.{row, used, side, even, half-in, next-in, mate, half-used}
 use Rattle.boundary.specs.Changes.{led-half, led-edge, led-in, owned-side, owned-one, owned-in, joined-half, joined-edge, joined-in}
-use Rattle.boundary.proofs.Rows.{row-set}
+use Rattle.boundary.proofs.Rows.{row-set, next-owned}
 use Rattle.rules.specs.Rules.{Has, Used}
-use Rattle.rules.proofs.Rows.{has-below, has-row, row-put-same, row-put-other, has-put-same, has-put-other-in, has-put-cases, has-clear-in, has-clear-out, row-map}
+use Rattle.rules.proofs.Rows.{has-below, has-row, row-put-same, row-put-other, length-put, has-put-same, has-put-other-in, has-put-cases, has-clear-in, has-clear-out, row-map}
 
 -- the two halves of an edge, by number
 pub half-of-even : (k : ℕ) → 2 * k / 2 ≡ k
@@ -219,3 +219,113 @@ joined-hit es l m h u e = joined-owner es l m h u ∙ cond-true (eqb (half-in es
 
 pub joined-miss : (es : List (Option Edge)) (l m h : ℕ) → Has es (h / 2) → half-in es h .owner ≢ l → half-in (joined-in es l m) h .owner ≡ half-in es h .owner
 joined-miss es l m h u ne = joined-owner es l m h u ∙ cond-false (eqb (half-in es h .owner) l) m (half-in es h .owner) (ne-eqb (half-in es h .owner) l ne)
+
+-- the half-edges of a list lie on l: first one of them
+owned-side-start : (b c : Bool) (l : ℕ) (r : Option Edge) → side (mapped (owned-side b l) r) c .start ≡ side r c .start
+owned-side-start b c l None = refl
+owned-side-start true true l (Some e) = refl
+owned-side-start true false l (Some e) = refl
+owned-side-start false true l (Some e) = refl
+owned-side-start false false l (Some e) = refl
+
+owned-side-hit : (b c : Bool) (l : ℕ) (r : Option Edge) → T (isSome r) → c ≡ b → side (mapped (owned-side b l) r) c .owner ≡ l
+owned-side-hit b c l None u e = absurd u
+owned-side-hit true true l (Some x) u e = refl
+owned-side-hit true false l (Some x) u e = absurd (subst T (sym e) tt)
+owned-side-hit false true l (Some x) u e = absurd (subst T e tt)
+owned-side-hit false false l (Some x) u e = refl
+
+owned-side-miss : (b c : Bool) (l : ℕ) (r : Option Edge) → (c ≡ b → ⊥) → side (mapped (owned-side b l) r) c .owner ≡ side r c .owner
+owned-side-miss b c l None ne = refl
+owned-side-miss true true l (Some x) ne = absurd (ne refl)
+owned-side-miss true false l (Some x) ne = refl
+owned-side-miss false true l (Some x) ne = refl
+owned-side-miss false false l (Some x) ne = absurd (ne refl)
+
+isSome-owned : (b : Bool) (l : ℕ) (r : Option Edge) → isSome (mapped (owned-side b l) r) ≡ isSome r
+isSome-owned b l None = refl
+isSome-owned b l (Some e) = refl
+
+-- two half-edges of one edge and of one side are the same
+one-half : (j h : ℕ) → j / 2 ≡ h / 2 → even j ≡ even h → j ≡ h
+one-half j h e q = elim (half-is j (h / 2) e) [
+  | inl a ↦ elim (half-is h (h / 2) refl) [
+    | inl c ↦ a ∙ sym c
+    | inr c ↦ absurd (subst T (sym (even-even (h / 2)) ∙ ap even (sym a) ∙ q ∙ ap even c ∙ even-odd (h / 2)) tt)
+  ]
+  | inr a ↦ elim (half-is h (h / 2) refl) [
+    | inl c ↦ absurd (subst T (sym (even-even (h / 2)) ∙ ap even (sym c) ∙ sym q ∙ ap even a ∙ even-odd (h / 2)) tt)
+    | inr c ↦ a ∙ sym c
+  ]
+]
+
+module _ (es : List (Option Edge)) (h l : ℕ) where
+  owned-one-used : (m : ℕ) → used (owned-one es h l) m ≡ used es m
+  owned-one-used m = elim (row-set (mapped (owned-side (even h) l)) es (h / 2) m) [
+    | inl changed ↦ ap isSome (changed .1) ∙ isSome-owned (even h) l (row es m)
+    | inr same ↦ ap isSome same
+  ]
+
+  owned-one-start : (j : ℕ) → half-in (owned-one es h l) j .start ≡ half-in es j .start
+  owned-one-start j = elim (row-set (mapped (owned-side (even h) l)) es (h / 2) (j / 2)) [
+    | inl changed ↦ ap (λ r. side r (even j) .start) (changed .1) ∙ owned-side-start (even h) (even j) l (row es (j / 2))
+    | inr same ↦ ap (λ r. side r (even j) .start) same
+  ]
+
+  owned-one-miss : (j : ℕ) → j ≢ h → half-in (owned-one es h l) j .owner ≡ half-in es j .owner
+  owned-one-miss j ne = elim (row-set (mapped (owned-side (even h) l)) es (h / 2) (j / 2)) [
+    | inl changed ↦ ap (λ r. side r (even j) .owner) (changed .1) ∙ owned-side-miss (even h) (even j) l (row es (j / 2)) (λ q. ne (one-half j h (changed .0) q))
+    | inr same ↦ ap (λ r. side r (even j) .owner) same
+  ]
+
+  owned-one-hit : Has es (h / 2) → half-in (owned-one es h l) h .owner ≡ l
+  owned-one-hit u =
+      ap (λ r. side r (even h) .owner) (row-put-same es (h / 2) (mapped (owned-side (even h) l) (row es (h / 2))) (has-below es (h / 2) u)) ∙ owned-side-hit (even h) (even h) l (row es (h / 2)) u refl
+
+  -- what lies on l already stays there
+  owned-one-stays : (j : ℕ) → Has es (j / 2) → half-in es j .owner ≡ l → half-in (owned-one es h l) j .owner ≡ l
+  owned-one-stays j u e = elim (ℕ-discrete j h) [
+    | yes q ↦ subst (λ i. half-in (owned-one es h l) i .owner ≡ l) (sym q) (owned-one-hit (subst (λ i. Has es (i / 2)) q u))
+    | no ne ↦ owned-one-miss j ne ∙ e
+  ]
+
+pub owned-used : (es : List (Option Edge)) (hs : List ℕ) (l m : ℕ) → used (owned-in es hs l) m ≡ used es m
+owned-used es [] l m = refl
+owned-used es (h ∷ hs) l m = owned-used (owned-one es h l) hs l m ∙ owned-one-used es h l m
+
+pub owned-has-in : (es : List (Option Edge)) (hs : List ℕ) (l m : ℕ) → Has es m → Has (owned-in es hs l) m
+owned-has-in es hs l m u = subst T (sym (owned-used es hs l m)) u
+
+pub owned-has-out : (es : List (Option Edge)) (hs : List ℕ) (l m : ℕ) → Has (owned-in es hs l) m → Has es m
+owned-has-out es hs l m u = subst T (owned-used es hs l m) u
+
+pub owned-length : (es : List (Option Edge)) (hs : List ℕ) (l : ℕ) → length (owned-in es hs l) ≡ length es
+owned-length es [] l = refl
+owned-length es (h ∷ hs) l = owned-length (owned-one es h l) hs l ∙ length-put es (h / 2) (mapped (owned-side (even h) l) (row es (h / 2)))
+
+pub owned-start : (es : List (Option Edge)) (hs : List ℕ) (l j : ℕ) → half-in (owned-in es hs l) j .start ≡ half-in es j .start
+owned-start es [] l j = refl
+owned-start es (h ∷ hs) l j = owned-start (owned-one es h l) hs l j ∙ owned-one-start es h l j
+
+pub owned-next : (es : List (Option Edge)) (hs : List ℕ) (l j : ℕ) → half-in (owned-in es hs l) j .next ≡ half-in es j .next
+owned-next es [] l j = refl
+owned-next es (h ∷ hs) l j = owned-next (owned-one es h l) hs l j ∙ next-owned es h l j
+
+owned-stays : (es : List (Option Edge)) (hs : List ℕ) (l j : ℕ) → Has es (j / 2) → half-in es j .owner ≡ l → half-in (owned-in es hs l) j .owner ≡ l
+owned-stays es [] l j u e = e
+owned-stays es (h ∷ hs) l j u e =
+    owned-stays (owned-one es h l) hs l j (subst T (sym (owned-one-used es h l (j / 2))) u) (owned-one-stays es h l j u e)
+
+-- the half-edges of the list lie on l
+pub owned-hit : (es : List (Option Edge)) (hs : List ℕ) (l j : ℕ) → Has es (j / 2) → In hs j → half-in (owned-in es hs l) j .owner ≡ l
+owned-hit es [] l j u (i, lt, at) = absurd (let none : i < 0 = lt in omega arith)
+owned-hit es (h ∷ hs) l j u (zero, lt, at) =
+    owned-stays (owned-one es h l) hs l j (subst T (sym (owned-one-used es h l (j / 2))) u) (subst (λ i. half-in (owned-one es h l) i .owner ≡ l) (at 0) (owned-one-hit es h l (subst (λ i. Has es (i / 2)) (sym (at 0)) u)))
+owned-hit es (h ∷ hs) l j u (suc i, lt, at) =
+    owned-hit (owned-one es h l) hs l j (subst T (sym (owned-one-used es h l (j / 2))) u) (i, omega arith, at)
+
+-- and the others where they lay
+pub owned-miss : (es : List (Option Edge)) (hs : List ℕ) (l j : ℕ) → (In hs j → ⊥) → half-in (owned-in es hs l) j .owner ≡ half-in es j .owner
+owned-miss es [] l j n = refl
+owned-miss es (h ∷ hs) l j n =
+    owned-miss (owned-one es h l) hs l j (λ o. n (suc (o .0), omega (arith, o .1), o .2)) ∙ owned-one-miss es h l j (λ e. n (0, omega arith, λ d. sym e))

@@ -1,3 +1,5 @@
 pub mod Rows
 pub mod Counts
 pub mod Halves
+pub mod Views
+pub mod Runs

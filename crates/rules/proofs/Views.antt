@@ -1,0 +1,47 @@
+-- The rules of a boundary as rings of its half-edges, and back.
+use mathlib.Core.Path.{_≡_, refl, sym, ap, subst, _∙_}
+use mathlib.Core.Logic.{_≢_}
+use Prim.Native.Nat.{ℕ, _<_}
+use Rattle.boundary.specs.declared.Boundary.{Boundary}
+use Rattle.boundary.specs.Tables.{start, next, owner, mate}
+use Rattle.rings.specs.Rings.{Rings, Reaches}
+use Rattle.rings.specs.Euler.{Paired}
+use Rattle.rings.proofs.Facts.{injective}
+use Rattle.rules.specs.Rules.{Used, turn, Named, Continues, LoopRings, VertexRings, Sound}
+use Rattle.rules.proofs.Halves.{mate-mate, mate-same, used-mate, mate-used, used-small}
+
+pub paired : (b : Boundary) → Paired mate (Used b)
+paired b = record { in-use = used-mate b; back = λ h u. mate-mate h }
+
+pub loop-rings : (b : Boundary) → Sound b → Rings (next b) (Used b) (owner b)
+loop-rings b s = record { closed = s .named .next-used; label = s .loops .stays; one-ring = s .loops .one-ring }
+
+pub vertex-rings : (b : Boundary) → Sound b → Rings (turn b) (Used b) (start b)
+vertex-rings b s = record {
+  closed = λ h u. s .named .next-used (mate h) (used-mate b h u);
+  label = λ h u. s .continues .goes-on (mate h) (used-mate b h u) ∙ ap (start b) (mate-mate h);
+  one-ring = s .vertices .one-ring;
+}
+
+pub half-below : (b : Boundary) → Sound b → (h : ℕ) → Used b h → h < 384
+half-below b s = used-small b (s .sizes .edges)
+
+-- back: the rules that such rings give
+pub next-used-by : (b : Boundary) → Rings (next b) (Used b) (owner b) → (h : ℕ) → Used b h → Used b (next b h)
+next-used-by b r = r .closed
+
+pub loop-rings-by : (b : Boundary) → Rings (next b) (Used b) (owner b) → LoopRings b
+loop-rings-by b r = record { stays = r .label; one-ring = r .one-ring }
+
+pub apart-by : (b : Boundary) → Rings (next b) (Used b) (owner b) → (h k : ℕ) → Used b h → Used b k → next b h ≡ next b k → h ≡ k
+apart-by b r h k u v e = injective r h k u v e
+
+pub vertex-rings-by : (b : Boundary) → Rings (turn b) (Used b) (start b) → VertexRings b
+vertex-rings-by b r = record { one-ring = r .one-ring }
+
+-- the half-edge after h starts where h ends, since the step round a vertex stays at it
+pub goes-on-by : (b : Boundary) → Rings (turn b) (Used b) (start b) → (h : ℕ) → Used b h → start b (next b h) ≡ start b (mate h)
+goes-on-by b r h u = ap (λ i. start b (next b i)) (sym (mate-mate h)) ∙ r .label (mate h) (used-mate b h u)
+
+pub continues-by : (b : Boundary) → Rings (next b) (Used b) (owner b) → Rings (turn b) (Used b) (start b) → Continues b
+continues-by b r v = record { goes-on = goes-on-by b v; apart = apart-by b r }
