@@ -12,10 +12,12 @@ use Rattle.std.specs.Options.{isSome, mapped}
 use Rattle.std.specs.shelf.Lists.{countBy, sumBy}
 use Rattle.std.specs.declared.option.Option.{Option}
 use Rattle.std.specs.declared.option.Option.the-variants.{None, Some}
-use Rattle.std.proofs.shelf.Sums.{sumBy-cons, sumBy-set, getD-le-sumBy}
+use Rattle.std.proofs.shelf.Sums.{sumBy-cons, sumBy-set, getD-le-sumBy, countBy-le-length}
 use Rattle.std.proofs.shelf.Tests.{eq-eqb, eqb-true}
+use Rattle.boundary.specs.declared.Boundary.{Boundary}
+use Rattle.boundary.specs.Operators.{one-more}
 use Rattle.boundary.specs.Tables.{row, used, count, in-row, parts, first-part}
-use Rattle.rules.specs.Rules.{Has}
+use Rattle.rules.specs.Rules.{Has, Sizes, Balanced}
 use Rattle.rules.proofs.Rows.{has-below, has-row, no-row, row-has, row-put-other, length-put}
 
 -- one, or nothing
@@ -106,3 +108,14 @@ module _ {X : Type 0} where
 pub count-none : (X : Type 0) (n : ℕ) → count (replicate {A = Option X} n None) ≡ 0
 count-none X zero = refl
 count-none X (suc n) = sumBy-cons (λ x. cond (isSome x) 1 0) None (replicate {A = Option X} n None) ∙ ap (λ m. 0 + m) (count-none X n)
+
+pub count-le : {X : Type 0} (t : List (Option X)) → count t ≤ length t
+count-le t = countBy-le-length isSome t
+
+-- the tables are small, so a balanced boundary has few handles, and the counter has room for one more
+pub handles-few : (b : Boundary) → Sizes b → Balanced b → b .handles ≤ 152
+handles-few b z q =
+    omega (arith, q, count-le (b .edges), count-le (b .loops), count-le (b .shells), z .edges, z .loops, z .shells)
+
+pub one-more-is : (b : Boundary) → Sizes b → Balanced b → one-more (b .handles) ≡ b .handles + 1
+one-more-is b z q = let few : b .handles ≤ 152 = handles-few b z q in omega arith
