@@ -1,6 +1,6 @@
 use native.Mathlib.Omega.{arith}
 use Rattle.solid.proofs.Runs.{owning-starts, owning-goes, owning-meets, owning-ends}
-use Rattle.solid.proofs.own_run.Needs as need
+use Rattle.solid.proofs.rows.own_run.Needs as need
 
 pub loop-holds : need.loop-holds
 loop-holds c = owning-starts (c .args .edges .now) (c .args .from) (c .args .to) (c .args .l)

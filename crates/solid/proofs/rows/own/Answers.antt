@@ -2,7 +2,7 @@ use mathlib.Core.Path.{sym}
 use native.Mathlib.Omega.{arith}
 use Prim.Native.Nat.{_/_}
 use Rattle.std.proofs.shelf.Lists.{set-past}
-use Rattle.solid.proofs.own.Needs as need
+use Rattle.solid.proofs.rows.own.Needs as need
 
 -- a half-edge past the table is of no edge
 pub returns-else-k-edges : need.returns-else-k-edges
