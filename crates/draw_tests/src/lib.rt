@@ -56,4 +56,50 @@ mod tests {
             "ok\nno 40 4\nno 40 5\nno 41 6\nno 41 7\nno 41 8\nno 41 9\nc 1 0 1 1 1 0\nv 0 0 0 0\nf 0 0 0\nl 0 0 v 0\n",
         )
     }
+
+    // What kef, kev and kvfs leave of the triangle, which is nothing.
+    #[test]
+    fn triangle_taken_down(rt: LibcRuntime) -> Result<(), Fail> {
+        writes(
+            &rt,
+            b"mvfs 0 0 0 0 0 0 0\nmev 512 0 1 256 0 0\nmev 1 1 2 256 256 0\nmef 0 3 2 1 1\nkef 5\nkev 2\nkev 0\nkvfs 0",
+            "ok\nok\nok\nok\nok\nok\nok\nok\nc 0 0 0 0 0 0\n",
+        )
+    }
+
+    #[test]
+    fn kemr_leaves_a_lone_vertex(rt: LibcRuntime) -> Result<(), Fail> {
+        writes(
+            &rt,
+            b"mvfs 0 0 0 0 0 0 0\nmev 512 0 1 256 0 0\nmev 1 1 2 256 256 0\nkemr 2 1",
+            "ok\nok\nok\nok\nc 3 1 1 2 1 0\nv 0 0 0 0\nv 1 256 0 0\nv 2 256 256 0\ne 0 0 1\nf 0 0 0\nl 0 0 0 1\nl 1 0 v 2\n",
+        )
+    }
+
+    #[test]
+    fn mekr_undoes_kemr(rt: LibcRuntime) -> Result<(), Fail> {
+        writes(
+            &rt,
+            b"mvfs 0 0 0 0 0 0 0\nmev 512 0 1 256 0 0\nmev 1 1 2 256 256 0\nkemr 2 1\nmekr 1 513 1",
+            "ok\nok\nok\nok\nok\nc 3 2 1 1 1 0\nv 0 0 0 0\nv 1 256 0 0\nv 2 256 256 0\ne 0 0 1\ne 1 1 2\nf 0 0 0\nl 0 0 0 2 3 1\n",
+        )
+    }
+
+    #[test]
+    fn kfmrh_counts_a_handle(rt: LibcRuntime) -> Result<(), Fail> {
+        writes(
+            &rt,
+            b"mvfs 0 0 0 0 0 0 0\nmev 512 0 1 256 0 0\nmev 1 1 2 256 256 0\nmef 0 3 2 1 1\nkfmrh 0 1",
+            "ok\nok\nok\nok\nok\nc 3 3 1 2 1 1\nv 0 0 0 0\nv 1 256 0 0\nv 2 256 256 0\ne 0 0 1\ne 1 1 2\ne 2 0 2\nf 0 0 0\nl 0 0 1 4 3\nl 1 0 0 2 5\n",
+        )
+    }
+
+    #[test]
+    fn kfmrh_of_two_shells_counts_none(rt: LibcRuntime) -> Result<(), Fail> {
+        writes(
+            &rt,
+            b"mvfs 0 0 0 0 0 0 0\nmvfs 1 1 1 1 9 9 9\nkfmrh 0 1",
+            "ok\nok\nok\nc 2 0 1 2 1 0\nv 0 0 0 0\nv 1 9 9 9\nf 0 0 0\nl 0 0 v 0\nl 1 0 v 1\n",
+        )
+    }
 }

@@ -10,6 +10,7 @@ ghost use Rattle.boundary.specs.Operators.{empty};
 ghost use Rattle.words.specs.Words.{lines, tokens};
 ghost use Rattle.words.specs.Left.{tokens-left, part, text-of};
 ghost use Rattle.drawing.specs.declared.Fault.the-variants.{Refused};
+ghost use Rattle.drawing.specs.declared.Operator.the-variants.{Mvfs, Kvfs, Mev, Kev, Mef, Kef, Kemr, Mekr, Kfmrh, Move};
 ghost use Rattle.drawing.specs.Commands.{operator, numbers, edit, asked};
 ghost use Rattle.drawing.specs.Drawing.{code, done, left, line-reply, after-line, shown, line-shown, drawn-from, drawn};
 use boundary::Edit;
@@ -28,8 +29,15 @@ const LIMIT: usize = 32768;
 #[derive(Clone, Copy)]
 enum Operator {
     Mvfs,
+    Kvfs,
     Mev,
+    Kev,
     Mef,
+    Kef,
+    Kemr,
+    Mekr,
+    Kfmrh,
+    Move,
 }
 
 // Why a line is not done.
@@ -95,6 +103,96 @@ impl Fault {
     }
 }
 
+fn mvfs(rest: &mut Line<'_>) -> Option<Edit>
+    ensures { λ r. ⌜ r ≡ edit Mvfs (tokens-left (now (rest .entry))) ⌝ }
+{
+    let [shell, face, outer, vertex, x, y, z] = numbers::<7>(rest)?;
+    let at = Point { x, y, z };
+    Some(Edit::Mvfs {
+        shell,
+        face,
+        outer,
+        vertex,
+        at,
+    })
+}
+
+fn kvfs(rest: &mut Line<'_>) -> Option<Edit>
+    ensures { λ r. ⌜ r ≡ edit Kvfs (tokens-left (now (rest .entry))) ⌝ }
+{
+    let [shell] = numbers::<1>(rest)?;
+    Some(Edit::Kvfs { shell })
+}
+
+fn mev(rest: &mut Line<'_>) -> Option<Edit>
+    ensures { λ r. ⌜ r ≡ edit Mev (tokens-left (now (rest .entry))) ⌝ }
+{
+    let [place, edge, vertex, x, y, z] = numbers::<6>(rest)?;
+    let at = Point { x, y, z };
+    Some(Edit::Mev {
+        place,
+        edge,
+        vertex,
+        at,
+    })
+}
+
+fn kev(rest: &mut Line<'_>) -> Option<Edit>
+    ensures { λ r. ⌜ r ≡ edit Kev (tokens-left (now (rest .entry))) ⌝ }
+{
+    let [half] = numbers::<1>(rest)?;
+    Some(Edit::Kev { half })
+}
+
+fn mef(rest: &mut Line<'_>) -> Option<Edit>
+    ensures { λ r. ⌜ r ≡ edit Mef (tokens-left (now (rest .entry))) ⌝ }
+{
+    let [from, to, edge, face, outer] = numbers::<5>(rest)?;
+    Some(Edit::Mef {
+        from,
+        to,
+        edge,
+        face,
+        outer,
+    })
+}
+
+fn kef(rest: &mut Line<'_>) -> Option<Edit>
+    ensures { λ r. ⌜ r ≡ edit Kef (tokens-left (now (rest .entry))) ⌝ }
+{
+    let [half] = numbers::<1>(rest)?;
+    Some(Edit::Kef { half })
+}
+
+fn kemr(rest: &mut Line<'_>) -> Option<Edit>
+    ensures { λ r. ⌜ r ≡ edit Kemr (tokens-left (now (rest .entry))) ⌝ }
+{
+    let [half, inner] = numbers::<2>(rest)?;
+    Some(Edit::Kemr { half, inner })
+}
+
+fn mekr(rest: &mut Line<'_>) -> Option<Edit>
+    ensures { λ r. ⌜ r ≡ edit Mekr (tokens-left (now (rest .entry))) ⌝ }
+{
+    let [to, inner, edge] = numbers::<3>(rest)?;
+    Some(Edit::Mekr { to, inner, edge })
+}
+
+fn kfmrh(rest: &mut Line<'_>) -> Option<Edit>
+    ensures { λ r. ⌜ r ≡ edit Kfmrh (tokens-left (now (rest .entry))) ⌝ }
+{
+    let [kept, killed] = numbers::<2>(rest)?;
+    Some(Edit::Kfmrh { kept, killed })
+}
+
+fn move_vertex(rest: &mut Line<'_>) -> Option<Edit>
+    ensures { λ r. ⌜ r ≡ edit Move (tokens-left (now (rest .entry))) ⌝ }
+{
+    let [vertex, x, y, z] = numbers::<4>(rest)?;
+    let at = Point { x, y, z };
+    Some(Edit::Move { vertex, at })
+}
+
 impl Operator {
     // The operator of a name.
     fn named(name: &[u8]) -> Option<Operator>
@@ -102,10 +200,24 @@ impl Operator {
     {
         if spells(name, "mvfs") {
             Some(Operator::Mvfs)
+        } else if spells(name, "kvfs") {
+            Some(Operator::Kvfs)
         } else if spells(name, "mev") {
             Some(Operator::Mev)
+        } else if spells(name, "kev") {
+            Some(Operator::Kev)
         } else if spells(name, "mef") {
             Some(Operator::Mef)
+        } else if spells(name, "kef") {
+            Some(Operator::Kef)
+        } else if spells(name, "kemr") {
+            Some(Operator::Kemr)
+        } else if spells(name, "mekr") {
+            Some(Operator::Mekr)
+        } else if spells(name, "kfmrh") {
+            Some(Operator::Kfmrh)
+        } else if spells(name, "move") {
+            Some(Operator::Move)
         } else {
             None
         }
@@ -116,37 +228,16 @@ impl Operator {
         ensures { λ r. ⌜ r ≡ edit self (tokens-left (now (rest .entry))) ⌝ }
     {
         match self {
-            Operator::Mvfs => {
-                let [shell, face, outer, vertex, x, y, z] = numbers::<7>(rest)?;
-                let at = Point { x, y, z };
-                Some(Edit::Mvfs {
-                    shell,
-                    face,
-                    outer,
-                    vertex,
-                    at,
-                })
-            }
-            Operator::Mev => {
-                let [place, edge, vertex, x, y, z] = numbers::<6>(rest)?;
-                let at = Point { x, y, z };
-                Some(Edit::Mev {
-                    place,
-                    edge,
-                    vertex,
-                    at,
-                })
-            }
-            Operator::Mef => {
-                let [from, to, edge, face, outer] = numbers::<5>(rest)?;
-                Some(Edit::Mef {
-                    from,
-                    to,
-                    edge,
-                    face,
-                    outer,
-                })
-            }
+            Operator::Mvfs => mvfs(rest),
+            Operator::Kvfs => kvfs(rest),
+            Operator::Mev => mev(rest),
+            Operator::Kev => kev(rest),
+            Operator::Mef => mef(rest),
+            Operator::Kef => kef(rest),
+            Operator::Kemr => kemr(rest),
+            Operator::Mekr => mekr(rest),
+            Operator::Kfmrh => kfmrh(rest),
+            Operator::Move => move_vertex(rest),
         }
     }
 }

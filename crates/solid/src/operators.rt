@@ -3,8 +3,8 @@ ghost use mathlib.Core.Path.{_≡_};
 ghost use Prim.Native.Nat.{_<_};
 ghost use Rattle.std.specs.Options.{isSome, valueOr};
 ghost use Rattle.std.specs.declared.option.Option.the-variants.{Some};
-ghost use Rattle.boundary.specs.Changes.{put-lone, emptied};
-ghost use Rattle.boundary.specs.Operators.{mvfs, kvfs, face-in, mev, mev-before, mev-lone, kev, mef, past, spliced, kef, cut-off, kemr, led-place, onward, mekr, connected, kfmrh, move};
+ghost use Rattle.boundary.specs.Changes.{put-lone, emptied, led};
+ghost use Rattle.boundary.specs.Operators.{half-edge, mvfs, kvfs, face-in, mev, mev-before, mev-lone, kev, mef, past, spliced, kef, cut-off, kemr, led-place, onward, mekr, connected, kfmrh, move};
 ghost use Rattle.boundary.specs.Refusals.{mvfs-refusal, kvfs-refusal, mev-refusal, kev-refusal, mef-refusal, kef-refusal, kemr-refusal, mekr-refusal, kfmrh-refusal, move-refusal, place-used, has-vertex, are-joinable};
 ghost use Rattle.boundary.specs.Tables.{row, lone, outer-of, loop-face, face-shell, loop-shell, place-loop, place-vertex};
 ghost use Rattle.solid.specs.Steps.{Decided};
@@ -74,6 +74,13 @@ impl Solid {
             None => 0,
             Some(found) => found.outer,
         }
+    }
+
+    // What led to `past` leads to `on`.
+    fn lead(&mut self, past: u16, on: u16)
+        ensures { λ _. ⌜ now (self .exit) .boundary ≡ led (now (self .entry) .boundary) past on ⌝ }
+    {
+        change_all(&mut self.boundary.edges, &Lead { past, on });
     }
 
     // What a place names is used.
@@ -173,17 +180,9 @@ impl Solid {
             next: _,
             owner,
         } = half(&self.boundary.edges, h);
-        change_all(&mut self.boundary.edges, &Lead { past: h, on: 2 * k });
-        let even = HalfEdge {
-            start,
-            next: 2 * k + 1,
-            owner,
-        };
-        let odd = HalfEdge {
-            start: v,
-            next: h,
-            owner,
-        };
+        self.lead(h, 2 * k);
+        let even = half_edge(start, 2 * k + 1, owner);
+        let odd = half_edge(v, h, owner);
         put(&mut self.boundary.edges, k, Edge { even, odd });
         put(&mut self.boundary.vertices, v, p);
     }
@@ -194,16 +193,8 @@ impl Solid {
         ensures { λ _. ⌜ now (self .exit) .boundary ≡ mev-lone (now (self .entry) .boundary) l k v p ⌝ }
     {
         self.put_lone(l, None);
-        let even = HalfEdge {
-            start,
-            next: 2 * k + 1,
-            owner: l,
-        };
-        let odd = HalfEdge {
-            start: v,
-            next: 2 * k,
-            owner: l,
-        };
+        let even = half_edge(start, 2 * k + 1, l);
+        let odd = half_edge(v, 2 * k, l);
         put(&mut self.boundary.edges, k, Edge { even, odd });
         put(&mut self.boundary.vertices, v, p);
     }
@@ -246,13 +237,7 @@ impl Solid {
         if there.next != mate(h) {
             return Err(Refusal::Condition);
         }
-        change_all(
-            &mut self.boundary.edges,
-            &Lead {
-                past: h,
-                on: back.next,
-            },
-        );
+        self.lead(h, back.next);
         self.leave_lone(back.next == h, there.owner, there.start);
         clear(&mut self.boundary.edges, h / 2);
         clear(&mut self.boundary.vertices, back.start);
@@ -268,30 +253,10 @@ impl Solid {
         let second = half(&self.boundary.edges, to);
         let shell = self.face_shell(self.loop_face(first.owner));
         own_run(&mut self.boundary.edges, from, to, l);
-        change_all(
-            &mut self.boundary.edges,
-            &Lead {
-                past: from,
-                on: 2 * k,
-            },
-        );
-        change_all(
-            &mut self.boundary.edges,
-            &Lead {
-                past: to,
-                on: 2 * k + 1,
-            },
-        );
-        let even = HalfEdge {
-            start: first.start,
-            next: to,
-            owner: first.owner,
-        };
-        let odd = HalfEdge {
-            start: second.start,
-            next: from,
-            owner: l,
-        };
+        self.lead(from, 2 * k);
+        self.lead(to, 2 * k + 1);
+        let even = half_edge(first.start, to, first.owner);
+        let odd = half_edge(second.start, from, l);
         put(&mut self.boundary.edges, k, Edge { even, odd });
         put(&mut self.boundary.faces, f, Face { shell, outer: l });
         put(
@@ -356,20 +321,8 @@ impl Solid {
                 to: second.owner,
             },
         );
-        change_all(
-            &mut self.boundary.edges,
-            &Lead {
-                past: x,
-                on: past_x,
-            },
-        );
-        change_all(
-            &mut self.boundary.edges,
-            &Lead {
-                past: y,
-                on: past_y,
-            },
-        );
+        self.lead(x, past_x);
+        self.lead(y, past_y);
         self.leave_lone(
             first.next == x && second.next == y,
             second.owner,
@@ -418,20 +371,8 @@ impl Solid {
             None
         };
         own_run(&mut self.boundary.edges, there.next, mate(h), l);
-        change_all(
-            &mut self.boundary.edges,
-            &Lead {
-                past: mate(h),
-                on: there.next,
-            },
-        );
-        change_all(
-            &mut self.boundary.edges,
-            &Lead {
-                past: h,
-                on: back.next,
-            },
-        );
+        self.lead(mate(h), there.next);
+        self.lead(h, back.next);
         put(&mut self.boundary.loops, l, Loop { face, lone });
         self.leave_lone(back.next == h, there.owner, there.start);
         clear(&mut self.boundary.edges, h / 2);
@@ -480,7 +421,7 @@ impl Solid {
         ensures { λ _. ⌜ now (self .exit) .boundary ≡ led-place (now (self .entry) .boundary) place x ⌝ }
     {
         if place < 512 {
-            change_all(&mut self.boundary.edges, &Lead { past: place, on: x });
+            self.lead(place, x);
         }
     }
 
@@ -500,16 +441,8 @@ impl Solid {
         );
         self.lead_place(a, 2 * k);
         self.lead_place(c, 2 * k + 1);
-        let even = HalfEdge {
-            start: v,
-            next: onward(c, 2 * k + 1),
-            owner: outer,
-        };
-        let odd = HalfEdge {
-            start: w,
-            next: onward(a, 2 * k),
-            owner: outer,
-        };
+        let even = half_edge(v, onward(c, 2 * k + 1), outer);
+        let odd = half_edge(w, onward(a, 2 * k), outer);
         put(&mut self.boundary.edges, k, Edge { even, odd });
         self.put_lone(outer, None);
         clear(&mut self.boundary.loops, inner);
@@ -593,6 +526,12 @@ impl Solid {
         *lent = Some(at);
         Ok(())
     }
+}
+
+fn half_edge(start: u16, next: u16, owner: u16) -> HalfEdge
+    ensures { λ r. ⌜ r ≡ half-edge start next owner ⌝ }
+{
+    HalfEdge { start, next, owner }
 }
 
 // The half-edge of a place, or `x` at a lone vertex.
