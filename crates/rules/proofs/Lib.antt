@@ -5,3 +5,5 @@ pub mod Accepted
 pub mod Halves
 pub mod Views
 pub mod Runs
+pub mod Edges
+pub mod Move
