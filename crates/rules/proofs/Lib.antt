@@ -7,3 +7,4 @@ pub mod Views
 pub mod Runs
 pub mod Edges
 pub mod Move
+pub mod Mvfs
