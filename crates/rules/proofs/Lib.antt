@@ -8,3 +8,4 @@ pub mod Runs
 pub mod Edges
 pub mod Move
 pub mod Mvfs
+pub mod Kvfs
