@@ -9,3 +9,4 @@ pub mod Edges
 pub mod Move
 pub mod Mvfs
 pub mod Kvfs
+pub mod Kfmrh
