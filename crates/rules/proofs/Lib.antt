@@ -10,3 +10,4 @@ pub mod Move
 pub mod Mvfs
 pub mod Kvfs
 pub mod Kfmrh
+pub mod Added
