@@ -11,3 +11,4 @@ pub mod Mvfs
 pub mod Kvfs
 pub mod Kfmrh
 pub mod Added
+pub mod Grown

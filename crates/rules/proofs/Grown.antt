@@ -1,0 +1,193 @@
+-- A boundary with one edge and one vertex more keeps the rules, if its half-edges make rings.
+--     grown b ls es v p     b with the loops ls, the edges es and the new vertex v at p
+--     NewEdge               es is that of b with the edge k from w to v, both halves on the loop l
+--     LoopsFor              ls is that of b, but that l has no lone vertex, and w is lone on no loop
+use mathlib.Core.Path.{_≡_, refl, sym, ap, subst, _∙_}
+use mathlib.Core.Logic.{_≢_, _⊎_, inl, inr}
+use mathlib.Core.List.{List}
+use Prim.Native.Nat.{ℕ, _+_, _*_, _/_, _<_}
+use native.Mathlib.Omega.{arith}
+use lib.ListN.{length, set}
+use Rattle.std.specs.declared.option.Option.{Option}
+use Rattle.std.specs.declared.option.Option.the-variants.{None, Some}
+use Rattle.boundary.specs.declared.Point.{Point}
+use Rattle.boundary.specs.declared.Edge.{Edge}
+use Rattle.boundary.specs.declared.Loop.{Loop}
+use Rattle.boundary.specs.declared.Boundary.{Boundary}
+use Rattle.boundary.specs.Tables.{row, count, half-in, start, next, owner, mate, lone, lone-of, face-of, outer-of, loop-face, face-shell, loop-shell}
+use Rattle.rings.specs.Rings.{Rings}
+use Rattle.rules.specs.Rules.{Has, Used, turn, Sizes, Named, LoneVertices, Outer, OneShell, Balanced, Sound}
+use Rattle.rules.proofs.Rows.{has-apart, has-put-same, has-put-other-in, has-put-cases, length-put}
+use Rattle.rules.proofs.Counts.{count-put-free}
+use Rattle.rules.proofs.Halves.{mate-of-even, mate-of-odd, used-mate}
+use Rattle.rules.proofs.Views.{loop-rings-by, vertex-rings-by, continues-by}
+
+abbrev pub grown : Boundary → List (Option Loop) → List (Option Edge) → ℕ → Point → Boundary
+grown b ls es v p = record { shells = b .shells; faces = b .faces; loops = ls; edges = es; vertices = set (b .vertices) v (Some p); handles = b .handles }
+
+pub record NewEdge (b : Boundary) (es : List (Option Edge)) (k w v l : ℕ) : Type 0 where
+  pub size : length es ≡ length (b .edges)
+  pub counted : count es ≡ count (b .edges) + 1
+  pub used-in : (j : ℕ) → Used b j → Has es (j / 2)
+  pub used-cases : (j : ℕ) → Has es (j / 2) → (j ≡ 2 * k) ⊎ ((j ≡ 2 * k + 1) ⊎ Used b j)
+  pub used-even : Has es (2 * k / 2)
+  pub used-odd : Has es ((2 * k + 1) / 2)
+  pub start-old : (j : ℕ) → Used b j → half-in es j .start ≡ start b j
+  pub start-even : half-in es (2 * k) .start ≡ w
+  pub start-odd : half-in es (2 * k + 1) .start ≡ v
+  pub owner-old : (j : ℕ) → Used b j → half-in es j .owner ≡ owner b j
+  pub owner-even : half-in es (2 * k) .owner ≡ l
+  pub owner-odd : half-in es (2 * k + 1) .owner ≡ l
+
+pub record LoopsFor (b : Boundary) (ls : List (Option Loop)) (w l : ℕ) : Type 0 where
+  pub size : length ls ≡ length (b .loops)
+  pub counted : count ls ≡ count (b .loops)
+  pub has-in : (m : ℕ) → Has (b .loops) m → Has ls m
+  pub has-out : (m : ℕ) → Has ls m → Has (b .loops) m
+  pub face-same : (m : ℕ) → face-of (row ls m) ≡ loop-face b m
+  pub lone-out : (m u : ℕ) → lone-of (row ls m) ≡ Some u → lone b m ≡ Some u
+  pub lone-not-w : (m u : ℕ) → lone-of (row ls m) ≡ Some u → u ≢ w
+  pub lone-not-l : (m u : ℕ) → lone-of (row ls m) ≡ Some u → m ≢ l
+  pub lone-none : (m : ℕ) → lone-of (row ls m) ≡ None → (m ≡ l) ⊎ (lone b m ≡ None)
+  pub lone-still : (m u : ℕ) → lone b m ≡ Some u → (u ≡ w) ⊎ (lone-of (row ls m) ≡ Some u)
+
+module _ (b : Boundary) (ls : List (Option Loop)) (es : List (Option Edge)) (k w v l : ℕ) (p : Point) (s : Sound b) (e : NewEdge b es k w v l) (o : LoopsFor b ls w l) (w-used : Has (b .vertices) w) (v-free : Has (b .vertices) v → ⊥) (v-small : v < 128) (l-used : Has (b .loops) l) where
+  abbrev c : Boundary
+  c = grown b ls es v p
+
+  v-below : v < length (b .vertices)
+  v-below = let z = s .sizes .vertices in omega arith
+
+  v-now : Has (c .vertices) v
+  v-now = has-put-same (b .vertices) v p v-below
+
+  still-vertex : (u : ℕ) → Has (b .vertices) u → Has (c .vertices) u
+  still-vertex u h = has-put-other-in (b .vertices) v u p h
+
+  grown-sizes : Sizes c
+  grown-sizes = record {
+    shells = s .sizes .shells;
+    faces = s .sizes .faces;
+    loops = o .size ∙ s .sizes .loops;
+    edges = e .size ∙ s .sizes .edges;
+    vertices = length-put (b .vertices) v (Some p) ∙ s .sizes .vertices;
+  }
+
+  start-now : (j : ℕ) → Used c j → Has (c .vertices) (start c j)
+  start-now j u = elim (e .used-cases j u) [
+    | inl q ↦ subst (Has (c .vertices)) (sym (ap (start c) q ∙ e .start-even)) (still-vertex w w-used)
+    | inr more ↦ elim more [
+      | inl q ↦ subst (Has (c .vertices)) (sym (ap (start c) q ∙ e .start-odd)) v-now
+      | inr x ↦ subst (Has (c .vertices)) (sym (e .start-old j x)) (still-vertex (start b j) (s .named .start-used j x))
+    ]
+  ]
+
+  owner-now : (j : ℕ) → Used c j → Has ls (owner c j)
+  owner-now j u = elim (e .used-cases j u) [
+    | inl q ↦ subst (Has ls) (sym (ap (owner c) q ∙ e .owner-even)) (o .has-in l l-used)
+    | inr more ↦ elim more [
+      | inl q ↦ subst (Has ls) (sym (ap (owner c) q ∙ e .owner-odd)) (o .has-in l l-used)
+      | inr x ↦ subst (Has ls) (sym (e .owner-old j x)) (o .has-in (owner b j) (s .named .owner-used j x))
+    ]
+  ]
+
+  lone-old-used : (m u : ℕ) → lone c m ≡ Some u → Has (b .vertices) u
+  lone-old-used m u q = s .named .lone-used m u (o .lone-out m u q)
+
+  grown-named : ((j : ℕ) → Used c j → Used c (next c j)) → Named c
+  grown-named closed = record {
+    start-used = start-now;
+    next-used = closed;
+    owner-used = owner-now;
+    lone-used = λ m u q. still-vertex u (lone-old-used m u q);
+    face-used = λ m h. subst (Has (b .faces)) (sym (o .face-same m)) (s .named .face-used m (o .has-out m h));
+    shell-used = s .named .shell-used;
+    outer-used = λ f h. o .has-in (outer-of (row (b .faces) f)) (s .named .outer-used f h);
+  }
+
+  lone-alone-now : (m u j : ℕ) → lone c m ≡ Some u → Used c j → owner c j ≢ m
+  lone-alone-now m u j q x at = elim (e .used-cases j x) [
+    | inl a ↦ o .lone-not-l m u q (sym at ∙ ap (owner c) a ∙ e .owner-even)
+    | inr more ↦ elim more [
+      | inl a ↦ o .lone-not-l m u q (sym at ∙ ap (owner c) a ∙ e .owner-odd)
+      | inr y ↦ s .lone .lone-alone m u j (o .lone-out m u q) y (sym (e .owner-old j y) ∙ at)
+    ]
+  ]
+
+  else-half-now : (m : ℕ) → Has ls m → lone c m ≡ None → (j : ℕ) × Used c j × (owner c j ≡ m)
+  else-half-now m h q = elim (o .lone-none m q) [
+    | inl a ↦ (2 * k, e .used-even, e .owner-even ∙ sym a)
+    | inr a ↦
+        let x = s .lone .else-half-edge m (o .has-out m h) a in
+        (x .0, e .used-in (x .0) (x .1), e .owner-old (x .0) (x .1) ∙ x .2)
+  ]
+
+  abbrev Placed : ℕ → Type 0
+  Placed u = ((j : ℕ) × Used c j × (start c j ≡ u)) ⊎ ((m : ℕ) × (lone c m ≡ Some u))
+
+  lone-placed : (m u : ℕ) → lone b m ≡ Some u → Placed u
+  lone-placed m u q = elim (o .lone-still m u q) [
+    | inl a ↦ inl (2 * k, e .used-even, e .start-even ∙ sym a)
+    | inr a ↦ inr (m, a)
+  ]
+
+  placed : (u : ℕ) → Has (c .vertices) u → Placed u
+  placed u h = elim (has-put-cases (b .vertices) v u p h) [
+    | inl a ↦ inl (2 * k + 1, e .used-odd, e .start-odd ∙ sym a)
+    | inr old ↦ elim (s .lone .start-or-lone u old) [
+      | inl x ↦ inl (x .0, e .used-in (x .0) (x .1), e .start-old (x .0) (x .1) ∙ x .2)
+      | inr x ↦ lone-placed (x .0) u (x .1)
+    ]
+  ]
+
+  not-both-now : (m u j : ℕ) → lone c m ≡ Some u → Used c j → start c j ≢ u
+  not-both-now m u j q x at = elim (e .used-cases j x) [
+    | inl a ↦ o .lone-not-w m u q (sym at ∙ ap (start c) a ∙ e .start-even)
+    | inr more ↦ elim more [
+      | inl a ↦ has-apart (b .vertices) u v (lone-old-used m u q) v-free (sym at ∙ ap (start c) a ∙ e .start-odd)
+      | inr y ↦ s .lone .not-both m u j (o .lone-out m u q) y (sym (e .start-old j y) ∙ at)
+    ]
+  ]
+
+  grown-lone : LoneVertices c
+  grown-lone = record {
+    lone-alone = lone-alone-now;
+    else-half-edge = else-half-now;
+    start-or-lone = placed;
+    one-loop = λ m n u q t. s .lone .one-loop m n u (o .lone-out m u q) (o .lone-out n u t);
+    not-both = not-both-now;
+  }
+
+  grown-outer : Outer c
+  grown-outer = record {
+    lies-in = λ f h. o .face-same (outer-of (row (b .faces) f)) ∙ s .outer .lies-in f h;
+    some-face = s .outer .some-face;
+  }
+
+  shell-same : (m : ℕ) → loop-shell c m ≡ loop-shell b m
+  shell-same m = ap (face-shell b) (o .face-same m)
+
+  grown-shell : OneShell c
+  grown-shell j x = elim (e .used-cases j x) [
+    | inl a ↦ ap (loop-shell c) (ap (owner c) a ∙ e .owner-even ∙ sym (e .owner-odd) ∙ ap (owner c) (sym (ap mate a ∙ mate-of-even k)))
+    | inr more ↦ elim more [
+      | inl a ↦ ap (loop-shell c) (ap (owner c) a ∙ e .owner-odd ∙ sym (e .owner-even) ∙ ap (owner c) (sym (ap mate a ∙ mate-of-odd k)))
+      | inr y ↦ ap (loop-shell c) (e .owner-old j y) ∙ shell-same (owner b j) ∙ s .one-shell j y ∙ sym (ap (loop-shell c) (e .owner-old (mate j) (used-mate b j y)) ∙ shell-same (owner b (mate j)))
+    ]
+  ]
+
+  grown-balanced : Balanced c
+  grown-balanced = omega (arith, s .balanced, e .counted, o .counted, count-put-free (b .vertices) v p v-below v-free)
+
+  pub grown-sound : Rings (next c) (Used c) (owner c) → Rings (turn c) (Used c) (start c) → Sound c
+  grown-sound r t = record {
+    sizes = grown-sizes;
+    named = grown-named (r .closed);
+    continues = continues-by c r t;
+    loops = loop-rings-by c r;
+    vertices = vertex-rings-by c t;
+    lone = grown-lone;
+    outer = grown-outer;
+    one-shell = grown-shell;
+    balanced = grown-balanced;
+  }
