@@ -12,3 +12,4 @@ pub mod Kvfs
 pub mod Kfmrh
 pub mod Added
 pub mod Grown
+pub mod MevBefore

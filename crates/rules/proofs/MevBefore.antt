@@ -1,0 +1,153 @@
+-- The new edge k at a half-edge h: 2k and 2k + 1 come just before h, and the rules are kept.
+use mathlib.Core.Path.{_≡_, refl, sym, ap, subst, _∙_}
+use mathlib.Core.Logic.{_≢_, _⊎_, inl, inr}
+use mathlib.Core.List.{List}
+use Prim.Native.Nat.{ℕ, _+_, _*_, _/_, _<_}
+use native.Mathlib.Omega.{arith}
+use lib.ListN.{length, set}
+use Rattle.std.specs.declared.option.Option.{Option}
+use Rattle.std.specs.declared.option.Option.the-variants.{None, Some}
+use Rattle.boundary.specs.declared.Point.{Point}
+use Rattle.boundary.specs.declared.Edge.{Edge}
+use Rattle.boundary.specs.declared.Boundary.{Boundary}
+use Rattle.boundary.specs.Tables.{count, half-in, start, next, owner, mate}
+use Rattle.boundary.specs.Changes.{led-edge, led-in}
+use Rattle.boundary.specs.Operators.{half-edge, edge, mev-before}
+use Rattle.rings.specs.Rings.{Rings}
+use Rattle.rings.proofs.Facts.{before}
+use Rattle.rules.specs.Rules.{Has, Used, turn, Sound}
+use Rattle.rules.proofs.Rows.{has-apart, has-map-in, has-map-out, length-put, length-mapped}
+use Rattle.rules.proofs.Counts.{count-put-free, count-map}
+use Rattle.rules.proofs.Halves.{mate-of-even, mate-of-odd, mate-mate, mate-same, used-mate, new-edge, new-odd, put-even, put-odd, half-put-other, put-used-even, put-used-odd, put-used-in, put-used-cases, led-start, led-owner, led-hit, led-miss, half-of-odd}
+use Rattle.rules.proofs.Views.{loop-rings, vertex-rings, apart-by}
+use Rattle.rules.proofs.Added.{TwoMore, pair-inserted, one-inserted}
+use Rattle.rules.proofs.Grown.{NewEdge, LoopsFor, grown, grown-sound}
+
+-- the new edge, and the edges with it
+abbrev pub before-edge : Boundary → ℕ → ℕ → ℕ → Edge
+before-edge b h k v = edge (half-edge (start b h) (2 * k + 1) (owner b h)) (half-edge v h (owner b h))
+
+abbrev pub before-edges : Boundary → ℕ → ℕ → ℕ → List (Option Edge)
+before-edges b h k v = set (led-in (b .edges) h (2 * k)) k (Some (before-edge b h k v))
+
+module _ (b : Boundary) (h k v : ℕ) (s : Sound b) (h-used : Used b h) (k-small : k < 192) (k-free : Has (b .edges) k → ⊥) where
+  abbrev led-es : List (Option Edge)
+  led-es = led-in (b .edges) h (2 * k)
+
+  abbrev es : List (Option Edge)
+  es = before-edges b h k v
+
+  k-below : k < length led-es
+  k-below = let z = s .sizes .edges in omega (arith, length-mapped (led-edge h (2 * k)) (b .edges))
+
+  -- the half-edges then
+  old-in : (j : ℕ) → Used b j → Has es (j / 2)
+  old-in j u = put-used-in led-es k j (before-edge b h k v) (has-map-in (led-edge h (2 * k)) (b .edges) (j / 2) u)
+
+  cases : (j : ℕ) → Has es (j / 2) → (j ≡ 2 * k) ⊎ ((j ≡ 2 * k + 1) ⊎ Used b j)
+  cases j u = elim (put-used-cases led-es k j (before-edge b h k v) u) [
+    | inl e ↦ inl e
+    | inr more ↦ elim more [ inl e ↦ inr (inl e) | inr x ↦ inr (inr (has-map-out (led-edge h (2 * k)) (b .edges) (j / 2) x)) ]
+  ]
+
+  old-half : (j : ℕ) → Used b j → half-in es j ≡ half-in led-es j
+  old-half j u = half-put-other led-es k j _ (new-edge (b .edges) k j k-free u)
+
+  next-even : half-in es (2 * k) .next ≡ 2 * k + 1
+  next-even = ap (λ x. x .next) (put-even led-es k (before-edge b h k v) k-below)
+
+  next-odd : half-in es (2 * k + 1) .next ≡ h
+  next-odd = ap (λ x. x .next) (put-odd led-es k (before-edge b h k v) k-below)
+
+  next-hit : (j : ℕ) → Used b j → next b j ≡ h → half-in es j .next ≡ 2 * k
+  next-hit j u e = ap (λ x. x .next) (old-half j u) ∙ led-hit (b .edges) h (2 * k) j u e
+
+  next-miss : (j : ℕ) → Used b j → next b j ≢ h → half-in es j .next ≡ next b j
+  next-miss j u ne = ap (λ x. x .next) (old-half j u) ∙ led-miss (b .edges) h (2 * k) j u ne
+
+  new-edge-is : NewEdge b es k (start b h) v (owner b h)
+  new-edge-is = record {
+    size = length-put led-es k _ ∙ length-mapped (led-edge h (2 * k)) (b .edges);
+    counted = count-put-free led-es k (before-edge b h k v) k-below (λ u. k-free (has-map-out (led-edge h (2 * k)) (b .edges) k u)) ∙ ap (λ n. n + 1) (count-map (led-edge h (2 * k)) (b .edges));
+    used-in = old-in;
+    used-cases = cases;
+    used-even = put-used-even led-es k (before-edge b h k v) k-below;
+    used-odd = put-used-odd led-es k (before-edge b h k v) k-below;
+    start-old = λ j u. ap (λ x. x .start) (old-half j u) ∙ led-start (b .edges) h (2 * k) j;
+    start-even = ap (λ x. x .start) (put-even led-es k (before-edge b h k v) k-below);
+    start-odd = ap (λ x. x .start) (put-odd led-es k (before-edge b h k v) k-below);
+    owner-old = λ j u. ap (λ x. x .owner) (old-half j u) ∙ led-owner (b .edges) h (2 * k) j;
+    owner-even = ap (λ x. x .owner) (put-even led-es k (before-edge b h k v) k-below);
+    owner-odd = ap (λ x. x .owner) (put-odd led-es k (before-edge b h k v) k-below);
+  }
+
+  loops-for : LoopsFor b (b .loops) (start b h) (owner b h)
+  loops-for = record {
+    size = refl;
+    counted = refl;
+    has-in = λ m u. u;
+    has-out = λ m u. u;
+    face-same = λ m. refl;
+    lone-out = λ m u e. e;
+    lone-not-w = λ m u e q. s .lone .not-both m u h e h-used (sym q);
+    lone-not-l = λ m u e q. s .lone .lone-alone m u h e h-used (sym q);
+    lone-none = λ m e. inr e;
+    lone-still = λ m u e. inr e;
+  }
+
+  -- the half-edge before h
+  q : ℕ
+  q = before (loop-rings b s) h h-used .0
+
+  q-used : Used b q
+  unfolding q
+  q-used = before (loop-rings b s) h h-used .1
+
+  q-next : next b q ≡ h
+  unfolding q
+  q-next = before (loop-rings b s) h h-used .2
+
+  not-q : (j : ℕ) → Used b j → j ≢ q → next b j ≢ h
+  not-q j u ne e = ne (s .continues .apart j q u q-used (e ∙ sym q-next))
+
+  odd-new : Used b (2 * k + 1) → ⊥
+  odd-new u = new-odd (b .edges) k (2 * k + 1) k-free u refl
+
+  abbrev Now : ℕ → Type 0
+  Now j = Has es (j / 2)
+
+  loops-then : Rings (λ j. half-in es j .next) Now (λ j. half-in es j .owner)
+  loops-then =
+      pair-inserted more (loop-rings b s) q q-used (next-hit q q-used q-next) next-even (next-odd ∙ sym q-next) (λ j u ne. next-miss j u (not-q j u ne)) (new-edge-is .owner-even ∙ owner-q) (new-edge-is .owner-odd ∙ owner-q)
+    where
+      more : TwoMore (Used b) Now (owner b) (λ j. half-in es j .owner) (2 * k) (2 * k + 1)
+      more = record { y-new = odd-new; in-use = cases; x-in-use = new-edge-is .used-even; y-in-use = new-edge-is .used-odd; still-in-use = old-in; other-label = new-edge-is .owner-old }
+
+      owner-q : owner b h ≡ owner b q
+      owner-q = ap (owner b) (sym q-next) ∙ s .loops .stays q q-used
+
+  vertices-then : (Has (b .vertices) v → ⊥) → Rings (λ j. half-in es (mate j) .next) Now (λ j. half-in es j .start)
+  vertices-then v-free =
+      one-inserted more (vertex-rings b s) (mate q) (used-mate b q q-used) to-even (ap (λ j. half-in es j .next) (mate-of-even k) ∙ next-odd ∙ sym turn-q) (ap (λ j. half-in es j .next) (mate-of-odd k) ∙ next-even) other (new-edge-is .start-even ∙ start-q) fresh
+    where
+      more : TwoMore (Used b) Now (start b) (λ j. half-in es j .start) (2 * k) (2 * k + 1)
+      more = record { y-new = odd-new; in-use = cases; x-in-use = new-edge-is .used-even; y-in-use = new-edge-is .used-odd; still-in-use = old-in; other-label = new-edge-is .start-old }
+
+      turn-q : turn b (mate q) ≡ h
+      turn-q = ap (next b) (mate-mate q) ∙ q-next
+
+      to-even : half-in es (mate (mate q)) .next ≡ 2 * k
+      to-even = ap (λ j. half-in es j .next) (mate-mate q) ∙ next-hit q q-used q-next
+
+      other : (j : ℕ) → Used b j → j ≢ mate q → half-in es (mate j) .next ≡ turn b j
+      other j u ne = next-miss (mate j) (used-mate b j u) (not-q (mate j) (used-mate b j u) (λ e. ne (sym (mate-mate j) ∙ ap mate e)))
+
+      start-q : start b h ≡ start b (mate q)
+      start-q = ap (start b) (sym q-next) ∙ s .continues .goes-on q q-used
+
+      fresh : (j : ℕ) → Used b j → start b j ≢ half-in es (2 * k + 1) .start
+      fresh j u e = has-apart (b .vertices) (start b j) v (s .named .start-used j u) v-free (e ∙ new-edge-is .start-odd)
+
+  pub before-sound : (p : Point) → (Has (b .vertices) v → ⊥) → v < 128 → Sound (mev-before b h k v p)
+  before-sound p v-free v-small =
+      grown-sound b (b .loops) es k (start b h) v (owner b h) p s new-edge-is loops-for (s .named .start-used h h-used) v-free v-small (s .named .owner-used h h-used) loops-then (vertices-then v-free)
