@@ -13,3 +13,5 @@ pub mod Kfmrh
 pub mod Added
 pub mod Grown
 pub mod MevBefore
+pub mod MevLone
+pub mod Mev
