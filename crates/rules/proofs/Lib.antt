@@ -15,3 +15,4 @@ pub mod Grown
 pub mod MevBefore
 pub mod MevLone
 pub mod Mev
+pub mod KevHalves
