@@ -16,3 +16,4 @@ pub mod MevBefore
 pub mod MevLone
 pub mod Mev
 pub mod KevHalves
+pub mod Kev
