@@ -17,3 +17,5 @@ pub mod MevLone
 pub mod Mev
 pub mod KevHalves
 pub mod Kev
+pub mod Owned
+pub mod Mef
