@@ -19,3 +19,4 @@ pub mod KevHalves
 pub mod Kev
 pub mod Owned
 pub mod Mef
+pub mod Histories
