@@ -20,3 +20,4 @@ pub mod Kev
 pub mod Owned
 pub mod Mef
 pub mod Histories
+pub mod Enter
