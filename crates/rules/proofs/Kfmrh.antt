@@ -1,20 +1,16 @@
 -- A face that becomes an inner loop of another keeps the rules. Of two shells, first the faces of one take the other's, so that both faces lie in one shell; then the loops of one face lie in the other. Each step keeps every rule but the balance.
 use mathlib.Core.Path.{_≡_, refl, sym, ap, subst, _∙_}
 use mathlib.Core.Logic.{_≢_, _⊎_, inl, inr}
-use mathlib.Core.Bool.{Bool, cond, not, _&&_}
-use mathlib.Core.List.{List, map}
-use Prim.Native.Nat.{ℕ, _+_, _*_, _<_}
+use mathlib.Core.Bool.{cond, not, _&&_}
+use Prim.Native.Nat.{ℕ, _<_}
 use native.Mathlib.Decide.{ℕ-discrete}
 use native.Mathlib.Omega.{arith}
-use lib.Dec.{T, eqb}
-use lib.ListN.{set}
+use lib.Dec.{eqb}
 use Rattle.std.specs.Options.{mapped}
-use Rattle.std.specs.declared.option.Option.{Option}
 use Rattle.std.specs.declared.option.Option.the-variants.{None, Some}
 use Rattle.std.proofs.shelf.Lists.{map-set}
 use Rattle.std.proofs.shelf.Tests.{eq-eqb, ne-eqb, cond-true, cond-false}
 use Rattle.boundary.specs.declared.Refusal.the-variants.{Unused, Condition}
-use Rattle.boundary.specs.declared.Face.{Face}
 use Rattle.boundary.specs.declared.Boundary.{Boundary}
 use Rattle.boundary.specs.Tables.{row, used, start, owner, mate, lone, shell-of, outer-of, loop-face, face-shell, loop-shell, loops-in}
 use Rattle.boundary.specs.Changes.{with-faces, with-handles, clear-shell, clear-face, inner, inner-loop, merged, merged-face}

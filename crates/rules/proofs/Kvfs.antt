@@ -2,9 +2,9 @@
 use mathlib.Core.Path.{_≡_, refl, sym, ap, subst, _∙_}
 use mathlib.Core.Logic.{_≢_, _⊎_, inl, inr}
 use mathlib.Core.Bool.{_&&_}
-use Prim.Native.Nat.{ℕ, _+_, _*_, _<_}
+use Prim.Native.Nat.{ℕ, _<_}
 use native.Mathlib.Omega.{arith}
-use lib.Dec.{T, eqb}
+use lib.Dec.{eqb}
 use Rattle.std.specs.Options.{isSome, valueOr}
 use Rattle.std.specs.declared.option.Option.{Option}
 use Rattle.std.specs.declared.option.Option.the-variants.{None, Some}
@@ -13,10 +13,10 @@ use Rattle.boundary.specs.declared.Refusal.the-variants.{Unused, Condition}
 use Rattle.boundary.specs.declared.Boundary.{Boundary}
 use Rattle.boundary.specs.Tables.{row, used, start, owner, mate, lone, lone-of, face-of, shell-of, outer-of, loop-face, face-shell, loop-shell, faces-in, loops-in}
 use Rattle.boundary.specs.Changes.{clear-shell, clear-face, clear-loop, clear-vertex}
-use Rattle.boundary.specs.Operators.{face-in, kvfs-of, kvfs}
+use Rattle.boundary.specs.Operators.{face-in, kvfs}
 use Rattle.boundary.specs.Refusals.{is-minimal, kvfs-refusal}
 use Rattle.rules.specs.Rules.{Has, Used, Sizes, Named, LoneVertices, Outer, OneShell, Balanced, Sound}
-use Rattle.rules.proofs.Rows.{true-T, and-true, unless-none, row-put-other, length-put, has-clear-in, has-clear-out, lone-has}
+use Rattle.rules.proofs.Rows.{some-value, true-T, and-true, unless-none, row-put-other, length-put, has-clear-in, has-clear-out, lone-has}
 use Rattle.rules.proofs.Counts.{count-clear}
 use Rattle.rules.proofs.Fields.{one-loop-in, one-face-in, face-in-is}
 use Rattle.rules.proofs.Halves.{used-mate}
@@ -196,10 +196,6 @@ module _ (b : Boundary) (a f l v : ℕ) (s : Sound b) (m : Minimal b a f l v) wh
     one-shell = one-shell;
     balanced = balanced;
   }
-
-some-value : (o : Option ℕ) → T (isSome o) → o ≡ Some (valueOr o 0)
-some-value None u = absurd u
-some-value (Some v) u = refl
 
 minimal : (b : Boundary) (a : ℕ) → kvfs-refusal b a ≡ None → Minimal b a (face-in b a) (outer-of (row (b .faces) (face-in b a))) (valueOr (lone b (outer-of (row (b .faces) (face-in b a)))) 0)
 minimal b a q =

@@ -21,3 +21,4 @@ pub mod Owned
 pub mod Mef
 pub mod Histories
 pub mod Enter
+pub mod Mekr

@@ -1,8 +1,7 @@
 -- A vertex that moves keeps the rules: the same rows are used, and no rule speaks of a position.
-use mathlib.Core.Path.{_≡_, sym, ap, _∙_}
-use Prim.Native.Nat.{ℕ, _+_, _*_, _<_}
+use mathlib.Core.Path.{_≡_, _∙_}
+use Prim.Native.Nat.{ℕ, _<_}
 use native.Mathlib.Omega.{arith}
-use lib.ListN.{set}
 use Rattle.std.specs.declared.option.Option.the-variants.{None, Some}
 use Rattle.boundary.specs.declared.Refusal.the-variants.{Unused}
 use Rattle.boundary.specs.declared.Point.{Point}

@@ -1,19 +1,16 @@
 -- A new shell with one face, one loop and one lone vertex keeps the rules: what was there does not name it, and it names itself.
-use mathlib.Core.Path.{_≡_, refl, sym, ap, subst, _∙_}
+use mathlib.Core.Path.{_≡_, sym, ap, subst, _∙_}
 use mathlib.Core.Logic.{_≢_, _⊎_, inl, inr}
 use mathlib.Core.Bool.{_&&_}
-use Prim.Native.Nat.{ℕ, _+_, _*_, _<_}
+use Prim.Native.Nat.{ℕ, _<_}
 use native.Mathlib.Decide.{ℕ-discrete}
 use native.Mathlib.Omega.{arith}
 use lib.Dec.{T}
-use lib.ListN.{length, set}
+use lib.ListN.{length}
 use Rattle.std.specs.Options.{isSome}
-use Rattle.std.specs.declared.option.Option.{Option}
 use Rattle.std.specs.declared.option.Option.the-variants.{None, Some}
 use Rattle.boundary.specs.declared.Refusal.the-variants.{Taken}
 use Rattle.boundary.specs.declared.Point.{Point}
-use Rattle.boundary.specs.declared.Loop.{Loop}
-use Rattle.boundary.specs.declared.Face.{Face}
 use Rattle.boundary.specs.declared.Boundary.{Boundary}
 use Rattle.boundary.specs.Tables.{row, start, owner, mate, lone, lone-of, face-of, shell-of, outer-of, loop-face, face-shell, loop-shell}
 use Rattle.boundary.specs.Operators.{mvfs}

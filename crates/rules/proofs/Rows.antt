@@ -9,7 +9,7 @@ use native.Mathlib.Omega.{arith}
 use lib.Dec.{T, eqb}
 use lib.ListN.{length, set, replicate}
 use lib.Seq.{getD-set-same, getD-set-other}
-use Rattle.std.specs.Options.{isSome, mapped}
+use Rattle.std.specs.Options.{isSome, mapped, valueOr}
 use Rattle.std.specs.declared.option.Option.{Option}
 use Rattle.std.specs.declared.option.Option.the-variants.{None, Some}
 use Rattle.std.proofs.shelf.Lists.{length-set, length-map, set-past}
@@ -183,6 +183,11 @@ row-none X (suc n) (suc k) = row-none X n k
 
 pub has-none : (X : Type 0) (n k : ℕ) → Has (replicate {A = Option X} n None) k → ⊥
 has-none X n k u = row-not-has (replicate {A = Option X} n None) k (row-none X n k) u
+
+-- a value that is there
+pub some-value : (o : Option ℕ) → T (isSome o) → o ≡ Some (valueOr o 0)
+some-value None u = absurd u
+some-value (Some v) u = refl
 
 -- a loop with a lone vertex is used
 pub lone-has : (b : Boundary) (l v : ℕ) → lone b l ≡ Some v → Has (b .loops) l
