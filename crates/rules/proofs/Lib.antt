@@ -22,3 +22,5 @@ pub mod Mef
 pub mod Histories
 pub mod Enter
 pub mod Mekr
+pub mod Erase
+pub mod Kef

@@ -1,0 +1,268 @@
+-- An edge with the halves x and y is erased: what a step past both leads to, the rings round the vertices, and the tables of edges and loops.
+use mathlib.Core.Path.{_≡_, refl, sym, ap, subst, _∙_}
+use mathlib.Core.Logic.{_≢_, _⊎_, inl, inr}
+use mathlib.Core.Bool.{Bool, true, false, cond}
+use mathlib.Core.List.{List}
+use Prim.Native.Nat.{ℕ, zero, suc, _+_, _/_}
+use native.Mathlib.Decide.{ℕ-discrete}
+use lib.Dec.{T, eqb}
+use lib.ListN.{length, set}
+use Rattle.std.specs.declared.option.Option.{Option}
+use Rattle.std.specs.declared.option.Option.the-variants.{None, Some}
+use Rattle.std.proofs.shelf.Tests.{eq-eqb, ne-eqb, cond-true, cond-false}
+use Rattle.boundary.specs.declared.Edge.{Edge}
+use Rattle.boundary.specs.declared.Loop.{Loop}
+use Rattle.boundary.specs.declared.Boundary.{Boundary}
+use Rattle.boundary.specs.Tables.{row, count, half-in, start, next, owner, mate, lone-of, face-of}
+use Rattle.boundary.specs.Changes.{with-loops, emptied, led-edge, led-in}
+use Rattle.boundary.specs.Operators.{past}
+use Rattle.rings.specs.Rings.{walk, Rings, Reaches}
+use Rattle.rings.specs.Changes.{Swapped}
+use Rattle.rings.specs.Euler.{Erased, swap, skip}
+use Rattle.rings.proofs.Facts.{injective}
+use Rattle.rings.proofs.Put.{swapped-by-put, skip-hit, skip-miss}
+use Rattle.rings.proofs.Euler.{vertices-left}
+use Rattle.rules.specs.Rules.{Has, Used, turn, Sound}
+use Rattle.rules.proofs.Rows.{has-below, has-put-other-in, has-put-again, row-put-same, row-put-other, length-put, has-map-in, has-map-out, length-mapped}
+use Rattle.rules.proofs.Counts.{count-put-used, count-clear, count-map}
+use Rattle.rules.proofs.Halves.{mate-apart, other-edge, half-put-other, clear-mates-in, clear-mates-out, led-start, led-owner, led-hit, led-miss}
+use Rattle.rules.proofs.Views.{paired, loop-rings, vertex-rings}
+
+-- a walk stays in what each step stays in
+reach-in : {f : ℕ → ℕ} (P : ℕ → Type 0) → ((i : ℕ) → P i → P (f i)) → (h k : ℕ) → P h → Reaches f h k → P k
+reach-in {f} P step h k start r = subst P (r .arrives) (go (r .steps))
+  where
+    go : (n : ℕ) → P (walk f n h)
+    go zero = start
+    go (suc n) = step (walk f n h) (go n)
+
+-- a ring of one element, and of two
+pub alone-in : {f : ℕ → ℕ} {used : ℕ → Type 0} {lab : ℕ → ℕ} → Rings f used lab → (x z : ℕ) → used x → used z → f x ≡ x → lab z ≡ lab x → z ≡ x
+alone-in {f} r x z u v e q = reach-in (λ i. i ≡ x) (λ i p. ap f p ∙ e) x z refl (r .one-ring x z u v (sym q))
+
+pub pair-in : {f : ℕ → ℕ} {used : ℕ → Type 0} {lab : ℕ → ℕ} → Rings f used lab → (x y z : ℕ) → used x → used z → f x ≡ y → f y ≡ x → lab z ≡ lab x → (z ≡ x) ⊎ (z ≡ y)
+pair-in {f} r x y z u v p q e = reach-in (λ i. (i ≡ x) ⊎ (i ≡ y)) step x z (inl refl) (r .one-ring x z u v (sym e))
+  where
+    step : (i : ℕ) → (i ≡ x) ⊎ (i ≡ y) → (f i ≡ x) ⊎ (f i ≡ y)
+    step i (inl t) = inr (ap f t ∙ p)
+    step i (inr t) = inl (ap f t ∙ q)
+
+-- where a step leads that passes both x and y, once they have exchanged what follows them
+module _ {f : ℕ → ℕ} {used : ℕ → Type 0} {lab : ℕ → ℕ} (r : Rings f used lab) (x y : ℕ) (ux : used x) (uy : used y) (apart : x ≢ y) where
+  abbrev g : ℕ → ℕ
+  g = swap f x y
+
+  exchanged : Swapped f g used x y
+  exchanged = swapped-by-put ux uy apart
+
+  -- past x alone, from y
+  from-y-on : f x ≢ x → skip g x y ≡ f x
+  from-y-on ne = skip-miss g x y (λ e. ne (sym (exchanged .y-step) ∙ e)) ∙ exchanged .y-step
+
+  from-y-over : f x ≡ x → skip g x y ≡ f y
+  from-y-over e = skip-hit g x y (exchanged .y-step ∙ e) ∙ exchanged .x-step
+
+  module _ (i : ℕ) (u : used i) (nx : i ≢ x) (ny : i ≢ y) where
+    past-x : f i ≡ x → skip (skip g x) y i ≡ cond (eqb (f y) y) (f x) (f y)
+    past-x e = elim (ℕ-discrete (f y) y) [
+      | yes q ↦ skip-hit (skip g x) y i (first ∙ q) ∙ from-y-on (λ p. nx (injective r i x u ux (e ∙ sym p))) ∙ sym (cond-true (eqb (f y) y) (f x) (f y) (eq-eqb (f y) y q))
+      | no nq ↦ skip-miss (skip g x) y i (λ p. nq (sym first ∙ p)) ∙ first ∙ sym (cond-false (eqb (f y) y) (f x) (f y) (ne-eqb (f y) y nq))
+    ]
+      where
+        first : skip g x i ≡ f y
+        first = skip-hit g x i (exchanged .other-step i u nx ny ∙ e) ∙ exchanged .x-step
+
+    past-y : f i ≡ y → skip (skip g x) y i ≡ cond (eqb (f x) x) (f y) (f x)
+    past-y e = skip-hit (skip g x) y i first ∙ elim (ℕ-discrete (f x) x) [
+      | yes q ↦ from-y-over q ∙ sym (cond-true (eqb (f x) x) (f y) (f x) (eq-eqb (f x) x q))
+      | no nq ↦ from-y-on nq ∙ sym (cond-false (eqb (f x) x) (f y) (f x) (ne-eqb (f x) x nq))
+    ]
+      where
+        here : g i ≡ y
+        here = exchanged .other-step i u nx ny ∙ e
+
+        first : skip g x i ≡ y
+        first = skip-miss g x i (λ p. apart (sym p ∙ here)) ∙ here
+
+    past-none : f i ≢ x → f i ≢ y → skip (skip g x) y i ≡ f i
+    past-none mx my = skip-miss (skip g x) y i (λ p. my (sym first ∙ p)) ∙ first
+      where
+        here : g i ≡ f i
+        here = exchanged .other-step i u nx ny
+
+        first : skip g x i ≡ f i
+        first = skip-miss g x i (λ p. mx (sym here ∙ p)) ∙ here
+
+-- where x, or y, is not alone on its ring, what led to the other leads to what follows it
+pub past-on : (b : Boundary) (x y : ℕ) → next b y ≢ y → past b x y ≡ next b y
+past-on b x y ne = cond-false (eqb (next b y) y) (next b x) (next b y) (ne-eqb (next b y) y ne)
+
+pub past-over : (b : Boundary) (x y : ℕ) → next b y ≡ y → past b x y ≡ next b x
+past-over b x y e = cond-true (eqb (next b y) y) (next b x) (next b y) (eq-eqb (next b y) y e)
+
+-- the half-edges of c are those of b without x and its mate y, past which the steps go
+pub record Gone (b c : Boundary) (x y : ℕ) : Type 0 where
+  pub x-used : Used b x
+  pub y-used : Used b y
+  pub mate-x : mate x ≡ y
+  pub mate-y : mate y ≡ x
+  pub in-use : (i : ℕ) → Used c i → Used b i × (i ≢ x) × (i ≢ y)
+  pub still-in-use : (i : ℕ) → Used b i → i ≢ x → i ≢ y → Used c i
+  pub old-start : (i : ℕ) → Used b i → i ≢ x → i ≢ y → start c i ≡ start b i
+  pub to-x : (i : ℕ) → Used b i → i ≢ x → i ≢ y → next b i ≡ x → next c i ≡ past b x y
+  pub to-y : (i : ℕ) → Used b i → i ≢ x → i ≢ y → next b i ≡ y → next c i ≡ past b y x
+  pub elsewhere : (i : ℕ) → Used b i → i ≢ x → i ≢ y → next b i ≢ x → next b i ≢ y → next c i ≡ next b i
+
+module _ (b c : Boundary) (x y : ℕ) (s : Sound b) (d : Gone b c x y) where
+  pub halves-apart : x ≢ y
+  halves-apart e = mate-apart x (d .mate-x ∙ sym e)
+
+  pub erased : Erased (next b) (next c) mate mate (Used b) (Used c) x y
+  erased = record {
+    x-used = d .x-used;
+    y-used = d .y-used;
+    x-not-y = halves-apart;
+    mate-x = d .mate-x;
+    mate-y = d .mate-y;
+    next-is = step;
+    mate-is = λ i u nx ny. refl;
+    in-use = d .in-use;
+    still-in-use = d .still-in-use;
+  }
+    where
+      r : Rings (next b) (Used b) (owner b)
+      r = loop-rings b s
+
+      step : (i : ℕ) → Used b i → i ≢ x → i ≢ y → next c i ≡ skip (skip (swap (next b) x y) x) y i
+      step i u nx ny = elim (ℕ-discrete (next b i) x) [
+        | yes e ↦ d .to-x i u nx ny e ∙ sym (past-x r x y (d .x-used) (d .y-used) halves-apart i u nx ny e)
+        | no mx ↦ elim (ℕ-discrete (next b i) y) [
+          | yes e ↦ d .to-y i u nx ny e ∙ sym (past-y r x y (d .x-used) (d .y-used) halves-apart i u nx ny e)
+          | no my ↦ d .elsewhere i u nx ny mx my ∙ sym (past-none r x y (d .x-used) (d .y-used) halves-apart i u nx ny mx my)
+        ]
+      ]
+
+  pub turns-left : Rings (turn c) (Used c) (start c)
+  turns-left = vertices-left erased (paired b) (vertex-rings b s) (d .old-start)
+
+  -- where x ends, y starts, and the half-edge after x
+  pub after-x : start b (next b x) ≡ start b y
+  after-x = s .continues .goes-on x (d .x-used) ∙ ap (start b) (d .mate-x)
+
+  pub after-y : start b (next b y) ≡ start b x
+  after-y = s .continues .goes-on y (d .y-used) ∙ ap (start b) (d .mate-y)
+
+-- the table es₁ has the edges of es, with their starts and steps
+pub record Alike (es es₁ : List (Option Edge)) : Type 0 where
+  pub has-in : (m : ℕ) → Has es m → Has es₁ m
+  pub has-out : (m : ℕ) → Has es₁ m → Has es m
+  pub starts : (i : ℕ) → half-in es₁ i .start ≡ half-in es i .start
+  pub nexts : (i : ℕ) → half-in es₁ i .next ≡ half-in es i .next
+  pub lengths : length es₁ ≡ length es
+  pub counts : count es₁ ≡ count es
+
+-- what led to m leads to u, then what led to n leads to v, and the edge of x is cleared
+abbrev pub erased-in : List (Option Edge) → ℕ → ℕ → ℕ → ℕ → ℕ → List (Option Edge)
+erased-in es₁ m u n v x = set (led-in (led-in es₁ m u) n v) (x / 2) None
+
+module _ (es es₁ : List (Option Edge)) (m p n q x : ℕ) (a : Alike es es₁) where
+  abbrev es₂ : List (Option Edge)
+  es₂ = led-in es₁ m p
+
+  abbrev es₃ : List (Option Edge)
+  es₃ = led-in es₂ n q
+
+  has₃ : (k : ℕ) → Has es k → Has es₃ k
+  has₃ k w = has-map-in (led-edge n q) es₂ k (has-map-in (led-edge m p) es₁ k (a .has-in k w))
+
+  pub erased-in-use : (i : ℕ) → Has (erased-in es₁ m p n q x) (i / 2) → Has es (i / 2) × (i ≢ x) × (i ≢ mate x)
+  erased-in-use i w =
+      let o = clear-mates-out es₃ x i w in
+      (a .has-out (i / 2) (has-map-out (led-edge m p) es₁ (i / 2) (has-map-out (led-edge n q) es₂ (i / 2) (o .0))), o .1, o .2)
+
+  pub erased-length : length (erased-in es₁ m p n q x) ≡ length es
+  erased-length = length-put es₃ (x / 2) None ∙ length-mapped (led-edge n q) es₂ ∙ length-mapped (led-edge m p) es₁ ∙ a .lengths
+
+  pub erased-count : Has es (x / 2) → count (erased-in es₁ m p n q x) + 1 ≡ count es
+  erased-count w = count-clear es₃ (x / 2) (has₃ (x / 2) w) ∙ count-map (led-edge n q) es₂ ∙ count-map (led-edge m p) es₁ ∙ a .counts
+
+  module _ (i : ℕ) (w : Has es (i / 2)) (nx : i ≢ x) (ny : i ≢ mate x) where
+    pub erased-still : Has (erased-in es₁ m p n q x) (i / 2)
+    erased-still = clear-mates-in es₃ x i nx ny (has₃ (i / 2) w)
+
+    same₃ : half-in (erased-in es₁ m p n q x) i ≡ half-in es₃ i
+    same₃ = half-put-other es₃ (x / 2) i None (other-edge i x nx ny)
+
+    pub erased-start : half-in (erased-in es₁ m p n q x) i .start ≡ half-in es i .start
+    erased-start = ap (λ r. r .start) same₃ ∙ led-start es₂ n q i ∙ led-start es₁ m p i ∙ a .starts i
+
+    pub erased-owner : half-in (erased-in es₁ m p n q x) i .owner ≡ half-in es₁ i .owner
+    erased-owner = ap (λ r. r .owner) same₃ ∙ led-owner es₂ n q i ∙ led-owner es₁ m p i
+
+    in₁ : Has es₁ (i / 2)
+    in₁ = a .has-in (i / 2) w
+
+    in₂ : Has es₂ (i / 2)
+    in₂ = has-map-in (led-edge m p) es₁ (i / 2) in₁
+
+    -- what led to m leads to p, which is not n
+    pub erased-first : p ≢ n → half-in es i .next ≡ m → half-in (erased-in es₁ m p n q x) i .next ≡ p
+    erased-first ne e =
+        let at₂ : half-in es₂ i .next ≡ p = led-hit es₁ m p i in₁ (a .nexts i ∙ e) in
+        ap (λ r. r .next) same₃ ∙ led-miss es₂ n q i in₂ (λ t. ne (sym at₂ ∙ t)) ∙ at₂
+
+    pub erased-second : n ≢ m → half-in es i .next ≡ n → half-in (erased-in es₁ m p n q x) i .next ≡ q
+    erased-second ne e =
+        ap (λ r. r .next) same₃ ∙ led-hit es₂ n q i in₂ (led-miss es₁ m p i in₁ (λ t. ne (sym e ∙ sym (a .nexts i) ∙ t)) ∙ a .nexts i ∙ e)
+
+    pub erased-other : half-in es i .next ≢ m → half-in es i .next ≢ n → half-in (erased-in es₁ m p n q x) i .next ≡ half-in es i .next
+    erased-other nm nn =
+        let at₂ : half-in es₂ i .next ≡ half-in es i .next = led-miss es₁ m p i in₁ (λ t. nm (sym (a .nexts i) ∙ t)) ∙ a .nexts i in
+        ap (λ r. r .next) same₃ ∙ led-miss es₂ n q i in₂ (λ t. nn (sym at₂ ∙ t)) ∙ at₂
+
+-- where the ring of l was emptied, v is lone on it: the loops alone change
+abbrev pub lone-put : Bool → List (Option Loop) → ℕ → ℕ → List (Option Loop)
+lone-put true t l v = set t l (Some (record { face = face-of (row t l); lone = Some v }))
+lone-put false t l v = t
+
+pub emptied-is : (c : Bool) (b : Boundary) (l v : ℕ) → emptied c b l v ≡ with-loops b (lone-put c (b .loops) l v)
+emptied-is true b l v = refl
+emptied-is false b l v = refl
+
+pub lone-put-has-in : (c : Bool) (t : List (Option Loop)) (l v m : ℕ) → Has t m → Has (lone-put c t l v) m
+lone-put-has-in true t l v m u = has-put-other-in t l m (record { face = face-of (row t l); lone = Some v }) u
+lone-put-has-in false t l v m u = u
+
+pub lone-put-has-out : (c : Bool) (t : List (Option Loop)) (l v m : ℕ) → Has t l → Has (lone-put c t l v) m → Has t m
+lone-put-has-out true t l v m old u = has-put-again t l m (record { face = face-of (row t l); lone = Some v }) old u
+lone-put-has-out false t l v m old u = u
+
+pub lone-put-other : (c : Bool) (t : List (Option Loop)) (l v m : ℕ) → m ≢ l → row (lone-put c t l v) m ≡ row t m
+lone-put-other true t l v m ne = row-put-other t l m (Some (record { face = face-of (row t l); lone = Some v })) ne
+lone-put-other false t l v m ne = refl
+
+pub lone-put-face : (c : Bool) (t : List (Option Loop)) (l v m : ℕ) → Has t l → face-of (row (lone-put c t l v) m) ≡ face-of (row t m)
+lone-put-face false t l v m old = refl
+lone-put-face true t l v m old = elim (ℕ-discrete m l) [
+  | yes e ↦ ap (λ i. face-of (row (set t l put) i)) e ∙ ap face-of (row-put-same t l put (has-below t l old)) ∙ ap (λ i. face-of (row t i)) (sym e)
+  | no ne ↦ ap face-of (row-put-other t l m put ne)
+]
+  where
+    put : Option Loop
+    put = Some (record { face = face-of (row t l); lone = Some v })
+
+pub lone-put-true : (c : Bool) (t : List (Option Loop)) (l v : ℕ) → Has t l → c ≡ true → lone-of (row (lone-put c t l v) l) ≡ Some v
+lone-put-true true t l v old e = ap lone-of (row-put-same t l (Some (record { face = face-of (row t l); lone = Some v })) (has-below t l old))
+lone-put-true false t l v old e = absurd (subst T (sym e) tt)
+
+pub lone-put-false : (c : Bool) (t : List (Option Loop)) (l v m : ℕ) → c ≡ false → row (lone-put c t l v) m ≡ row t m
+lone-put-false true t l v m e = absurd (subst T e tt)
+lone-put-false false t l v m e = refl
+
+pub lone-put-length : (c : Bool) (t : List (Option Loop)) (l v : ℕ) → length (lone-put c t l v) ≡ length t
+lone-put-length true t l v = length-put t l (Some (record { face = face-of (row t l); lone = Some v }))
+lone-put-length false t l v = refl
+
+pub lone-put-count : (c : Bool) (t : List (Option Loop)) (l v : ℕ) → Has t l → count (lone-put c t l v) ≡ count t
+lone-put-count true t l v old = count-put-used t l (record { face = face-of (row t l); lone = Some v }) old
+lone-put-count false t l v old = refl
