@@ -24,3 +24,5 @@ pub mod Enter
 pub mod Mekr
 pub mod Erase
 pub mod Kef
+pub mod Examples
+pub mod Broken

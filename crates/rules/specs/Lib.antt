@@ -1,3 +1,5 @@
 pub mod Rules
 pub mod Histories
 pub mod RingLaws
+pub mod Examples
+pub mod Broken
