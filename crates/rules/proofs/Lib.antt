@@ -26,3 +26,4 @@ pub mod Erase
 pub mod Kef
 pub mod Examples
 pub mod Broken
+pub mod Undo

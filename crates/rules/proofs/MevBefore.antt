@@ -56,7 +56,7 @@ module _ (b : Boundary) (h k v : ℕ) (s : Sound b) (h-used : Used b h) (k-small
   next-even : half-in es (2 * k) .next ≡ 2 * k + 1
   next-even = ap (λ x. x .next) (put-even led-es k (before-edge b h k v) k-below)
 
-  next-odd : half-in es (2 * k + 1) .next ≡ h
+  pub next-odd : half-in es (2 * k + 1) .next ≡ h
   next-odd = ap (λ x. x .next) (put-odd led-es k (before-edge b h k v) k-below)
 
   next-hit : (j : ℕ) → Used b j → next b j ≡ h → half-in es j .next ≡ 2 * k
@@ -65,7 +65,7 @@ module _ (b : Boundary) (h k v : ℕ) (s : Sound b) (h-used : Used b h) (k-small
   next-miss : (j : ℕ) → Used b j → next b j ≢ h → half-in es j .next ≡ next b j
   next-miss j u ne = ap (λ x. x .next) (old-half j u) ∙ led-miss (b .edges) h (2 * k) j u ne
 
-  new-edge-is : NewEdge b es k (start b h) v (owner b h)
+  pub new-edge-is : NewEdge b es k (start b h) v (owner b h)
   new-edge-is = record {
     size = length-put led-es k _ ∙ length-mapped (led-edge h (2 * k)) (b .edges);
     counted = count-put-free led-es k (before-edge b h k v) k-below (λ u. k-free (has-map-out (led-edge h (2 * k)) (b .edges) k u)) ∙ ap (λ n. n + 1) (count-map (led-edge h (2 * k)) (b .edges));

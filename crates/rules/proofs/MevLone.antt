@@ -68,13 +68,13 @@ module _ (b : Boundary) (l k v w : ℕ) (s : Sound b) (w-lone : lone b l ≡ Som
   next-even : half-in es (2 * k) .next ≡ 2 * k + 1
   next-even = ap (λ x. x .next) (put-even (b .edges) k (ring-edge l k w v) k-below)
 
-  next-odd : half-in es (2 * k + 1) .next ≡ 2 * k
+  pub next-odd : half-in es (2 * k + 1) .next ≡ 2 * k
   next-odd = ap (λ x. x .next) (put-odd (b .edges) k (ring-edge l k w v) k-below)
 
   next-old : (j : ℕ) → Used b j → half-in es j .next ≡ next b j
   next-old j u = ap (λ x. x .next) (old-half j u)
 
-  new-edge-is : NewEdge b es k w v l
+  pub new-edge-is : NewEdge b es k w v l
   new-edge-is = record {
     size = length-put (b .edges) k _;
     counted = count-put-free (b .edges) k (ring-edge l k w v) k-below k-free;
