@@ -19,7 +19,7 @@ use Rattle.boundary.specs.declared.HalfEdge.{HalfEdge}
 use Rattle.boundary.specs.declared.Edge.{Edge}
 use Rattle.boundary.specs.declared.Loop.{Loop}
 use Rattle.boundary.specs.declared.Boundary.{Boundary}
-use Rattle.boundary.specs.Tables.{row, half-in, start, next, owner, mate, lone, lone-of, face-of, loop-face, is-half-place}
+use Rattle.boundary.specs.Tables.{row, side, half-in, start, next, owner, mate, lone, lone-of, face-of, loop-face, is-half-place}
 use Rattle.boundary.specs.Changes.{clear-vertex, clear-edge, emptied, led, led-half, led-edge, led-in}
 use Rattle.boundary.specs.Operators.{kev, mev, mev-before, mev-lone}
 use Rattle.boundary.specs.Refusals.{mev-refusal}
@@ -41,9 +41,130 @@ put-back t z k r size here other = ext-getD None (set z k r) t (length-put z k r
 pub put-clear : {X : Type 0} (t : List (Option X)) (k : ℕ) (x : X) → (Has t k → ⊥) → set (set t k (Some x)) k None ≡ t
 put-clear t k x n = put-back t (set t k (Some x)) k None (length-put t k (Some x)) (no-row t k n) (λ i ne. row-put-other t k i (Some x) ne)
 
--- what leads elsewhere is not led, and what was led from a to x and back leads where it led, if nothing led to x
-half-by-next : (e : HalfEdge) (n : ℕ) → n ≡ e .next → record { start = e .start; next = n; owner = e .owner } ≡ e
-half-by-next e n q = ap (λ i. record { start = e .start; next = i; owner = e .owner }) q
+-- a half-edge with another after it
+abbrev with-next : HalfEdge → ℕ → HalfEdge
+with-next e n = record { start = e .start; next = n; owner = e .owner }
 
+-- what leads elsewhere is not led
 led-not : (a x : ℕ) (e : HalfEdge) → e .next ≢ a → led-half a x e ≡ e
-led-not a x e ne = ap (λ i. record { start = e .start; next = i; owner = e .owner }) (cond-false (eqb (e .next) a) x (e .next) (ne-eqb (e .next) a ne))
+led-not a x e ne = ap (with-next e) (cond-false (eqb (e .next) a) x (e .next) (ne-eqb (e .next) a ne))
+
+-- what did not lead to x, and is led from a to x and back, leads where it led
+led-to-and-back : (a x n : ℕ) → n ≢ x → cond (eqb (cond (eqb n a) x n) x) a (cond (eqb n a) x n) ≡ n
+led-to-and-back a x n ne = elim (ℕ-discrete n a) [
+  | yes e ↦
+      let to : cond (eqb n a) x n ≡ x = cond-true (eqb n a) x n (eq-eqb n a e) in
+      cond-true (eqb (cond (eqb n a) x n) x) a (cond (eqb n a) x n) (eq-eqb (cond (eqb n a) x n) x to) ∙ sym e
+  | no na ↦
+      let to : cond (eqb n a) x n ≡ n = cond-false (eqb n a) x n (ne-eqb n a na) in
+      cond-false (eqb (cond (eqb n a) x n) x) a (cond (eqb n a) x n) (ne-eqb (cond (eqb n a) x n) x (λ q. ne (sym to ∙ q))) ∙ to
+]
+
+led-back : (a x : ℕ) (e : HalfEdge) → e .next ≢ x → led-half x a (led-half a x e) ≡ e
+led-back a x e ne = ap (with-next e) (led-to-and-back a x (e .next) ne)
+
+-- neither half of the edge leads to x
+pub record Off (x : ℕ) (e : Edge) : Type 0 where
+  pub even : e .even .next ≢ x
+  pub odd : e .odd .next ≢ x
+
+led-row-not : (a x : ℕ) (r : Option Edge) → ((e : Edge) → r ≡ Some e → Off a e) → mapped (led-edge a x) r ≡ r
+led-row-not a x None off = refl
+led-row-not a x (Some e) off =
+    let p = led-not a x (e .even) (off e refl .even) in
+    let q = led-not a x (e .odd) (off e refl .odd) in
+    λ i. Some (record { even = p i; odd = q i })
+
+led-row-back : (a x : ℕ) (r : Option Edge) → ((e : Edge) → r ≡ Some e → Off x e) → mapped (led-edge x a) (mapped (led-edge a x) r) ≡ r
+led-row-back a x None off = refl
+led-row-back a x (Some e) off =
+    let p = led-back a x (e .even) (off e refl .even) in
+    let q = led-back a x (e .odd) (off e refl .odd) in
+    λ i. Some (record { even = p i; odd = q i })
+
+-- no half-edge leads to one that is not used
+nothing-leads : (b : Boundary) → Sound b → (k i : ℕ) → (Has (b .edges) k → ⊥) → (e : Edge) → row (b .edges) i ≡ Some e → Off (2 * k) e
+nothing-leads b s k i k-free e q = record {
+  even = λ n. new-even (b .edges) k (next b (2 * i)) k-free (s .named .next-used (2 * i) (at (half-of-even i))) (ap (λ x. x .next) (half-even (b .edges) i ∙ ap (λ r. side r true) q) ∙ n);
+  odd = λ n. new-even (b .edges) k (next b (2 * i + 1)) k-free (s .named .next-used (2 * i + 1) (at (half-of-odd i))) (ap (λ x. x .next) (half-odd (b .edges) i ∙ ap (λ r. side r false) q) ∙ n);
+}
+  where
+    at : {m : ℕ} → m ≡ i → Has (b .edges) m
+    at z = subst (Has (b .edges)) (sym z) (row-has (b .edges) i e q)
+
+-- the operator with what it reads of the boundary handed to it
+abbrev kev-parts : Bool → Boundary → ℕ → ℕ → ℕ → ℕ → ℕ → ℕ → Boundary
+kev-parts x c h n l w k v = clear-vertex (clear-edge (emptied x (led c h n) l w) k) v
+
+kev-parts-same : (c : Boundary) (h : ℕ) {x x′ : Bool} {n n′ l l′ w w′ k k′ v v′ : ℕ} → x ≡ x′ → n ≡ n′ → l ≡ l′ → w ≡ w′ → k ≡ k′ → v ≡ v′ → kev-parts x c h n l w k v ≡ kev-parts x′ c h n′ l′ w′ k′ v′
+kev-parts-same c h p q r t y z = λ i. kev-parts (p i) c h (q i) (r i) (t i) (y i) (z i)
+
+-- at a half-edge
+module _ (b : Boundary) (h k v : ℕ) (p : Point) (s : Sound b) (h-used : Used b h) (k-small : k < 192) (free : Free b k v) where
+  abbrev c : Boundary
+  c = mev-before b h k v p
+
+  after-odd : next c (mate (2 * k)) ≡ h
+  after-odd = ap (next c) (mate-of-even k) ∙ before-next-odd b h k v s h-used k-small (free .edge)
+
+  start-odd : start c (mate (2 * k)) ≡ v
+  start-odd = ap (start c) (mate-of-even k) ∙ before-new-edge b h k v s h-used k-small (free .edge) .start-odd
+
+  not-emptied : eqb (next c (mate (2 * k))) (2 * k) ≡ false
+  not-emptied = ne-eqb (next c (mate (2 * k))) (2 * k) (λ e. new-even (b .edges) k h (free .edge) h-used (sym after-odd ∙ e))
+
+  edges-back : set (led-in (before-edges b h k v) (2 * k) h) k None ≡ b .edges
+  edges-back = put-back (b .edges) (led-in (before-edges b h k v) (2 * k) h) k None (length-mapped (led-edge (2 * k) h) (before-edges b h k v) ∙ length-put led-es k _ ∙ length-mapped (led-edge h (2 * k)) (b .edges)) (no-row (b .edges) k (free .edge)) (λ i ne.
+    row-map (led-edge (2 * k) h) (before-edges b h k v) i ∙ ap (mapped (led-edge (2 * k) h)) (row-put-other led-es k i _ ne ∙ row-map (led-edge h (2 * k)) (b .edges) i) ∙ led-row-back h (2 * k) (row (b .edges) i) (nothing-leads b s k i (free .edge)))
+    where
+      led-es : List (Option Edge)
+      led-es = led-in (b .edges) h (2 * k)
+
+  before-undone : kev (mev-before b h k v p) (2 * k) ≡ b
+  before-undone =
+      let es = edges-back in
+      let vs = put-clear (b .vertices) v p (free .vertex) in
+      kev-parts-same c (2 * k) not-emptied after-odd refl refl (half-of-even k) start-odd
+      ∙ (λ i. record { shells = b .shells; faces = b .faces; loops = b .loops; edges = es i; vertices = vs i; handles = b .handles })
+
+-- at a lone vertex
+loop-is : (r : Option Loop) (w : ℕ) → lone-of r ≡ Some w → r ≡ Some (record { face = face-of r; lone = Some w })
+loop-is None w e = absurd (subst (λ o. T (isSome o)) (sym e) tt)
+loop-is (Some x) w e = ap (λ o. Some (record { face = x .face; lone = o })) e
+
+module _ (b : Boundary) (l k v w : ℕ) (p : Point) (s : Sound b) (w-lone : lone b l ≡ Some w) (k-small : k < 192) (free : Free b k v) where
+  abbrev d : Boundary
+  d = record { shells = b .shells; faces = b .faces; loops = bare-loops b l; edges = ring-edges b l k w v; vertices = set (b .vertices) v (Some p); handles = b .handles }
+
+  after-odd-lone : next d (mate (2 * k)) ≡ 2 * k
+  after-odd-lone = ap (next d) (mate-of-even k) ∙ lone-next-odd b l k v w s w-lone k-small (free .edge)
+
+  start-odd-lone : start d (mate (2 * k)) ≡ v
+  start-odd-lone = ap (start d) (mate-of-even k) ∙ lone-new-edge b l k v w s w-lone k-small (free .edge) .start-odd
+
+  ring-back : set (led-in (ring-edges b l k w v) (2 * k) (2 * k)) k None ≡ b .edges
+  ring-back = put-back (b .edges) (led-in (ring-edges b l k w v) (2 * k) (2 * k)) k None (length-mapped (led-edge (2 * k) (2 * k)) (ring-edges b l k w v) ∙ length-put (b .edges) k _) (no-row (b .edges) k (free .edge)) (λ i ne.
+    row-map (led-edge (2 * k) (2 * k)) (ring-edges b l k w v) i ∙ ap (mapped (led-edge (2 * k) (2 * k))) (row-put-other (b .edges) k i _ ne) ∙ led-row-not (2 * k) (2 * k) (row (b .edges) i) (nothing-leads b s k i (free .edge)))
+
+  bare-row : row (bare-loops b l) l ≡ Some (bare-loop b l)
+  bare-row = row-put-same (b .loops) l (Some (bare-loop b l)) (has-below (b .loops) l (lone-has b l w w-lone))
+
+  loops-back : set (bare-loops b l) l (Some (record { face = face-of (row (bare-loops b l) l); lone = Some w })) ≡ b .loops
+  loops-back =
+      put-back (b .loops) (bare-loops b l) l _ (length-put (b .loops) l _) (loop-is (row (b .loops) l) w w-lone ∙ ap (λ f. Some (record { face = f; lone = Some w })) (sym (ap face-of bare-row))) (λ i ne. row-put-other (b .loops) l i _ ne)
+
+  lone-undone : kev d (2 * k) ≡ b
+  lone-undone =
+      let ls = loops-back in
+      let es = ring-back in
+      let vs = put-clear (b .vertices) v p (free .vertex) in
+      let new = lone-new-edge b l k v w s w-lone k-small (free .edge) in
+      kev-parts-same d (2 * k) (eq-eqb (next d (mate (2 * k))) (2 * k) after-odd-lone) after-odd-lone (new .owner-even) (new .start-even) (half-of-even k) start-odd-lone
+      ∙ (λ i. record { shells = b .shells; faces = b .faces; loops = ls i; edges = es i; vertices = vs i; handles = b .handles })
+
+pub kev-undoes-mev : (b : Boundary) (a k v : ℕ) (p : Point) → Sound b → ((a < 384) ⊎ ((512 ≤ a) × (a < 608))) → k < 192 → v < 128 → mev-refusal b a k v ≡ None → kev (mev b a k v p) (2 * k) ≡ b
+kev-undoes-mev b a k v p s at k-small v-small q = go (is-half-place a) refl
+  where
+    go : (x : Bool) → is-half-place a ≡ x → kev (mev b a k v p) (2 * k) ≡ b
+    go true e = ap (λ x. kev (cond x (mev-before b a k v p) (mev-lone b (a - 512) k v p)) (2 * k)) e ∙ before-undone b a k v p s (mev-at-half b a k v q e) k-small (mev-free b a k v q)
+    go false e = ap (λ x. kev (cond x (mev-before b a k v p) (mev-lone b (a - 512) k v p)) (2 * k)) e ∙ lone-undone b (a - 512) k v (valueOr (lone b (a - 512)) 0) p s (mev-at-lone b a k v q e) k-small (mev-free b a k v q)
