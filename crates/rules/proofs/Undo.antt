@@ -19,12 +19,14 @@ use Rattle.boundary.specs.declared.HalfEdge.{HalfEdge}
 use Rattle.boundary.specs.declared.Edge.{Edge}
 use Rattle.boundary.specs.declared.Loop.{Loop}
 use Rattle.boundary.specs.declared.Boundary.{Boundary}
-use Rattle.boundary.specs.Tables.{row, side, half-in, start, next, owner, mate, lone, lone-of, face-of, loop-face, is-half-place}
-use Rattle.boundary.specs.Changes.{clear-vertex, clear-edge, emptied, led, led-half, led-edge, led-in}
-use Rattle.boundary.specs.Operators.{kev, mev, mev-before, mev-lone}
-use Rattle.boundary.specs.Refusals.{mev-refusal}
+use Rattle.boundary.specs.declared.Refusal.the-variants.{Taken}
+use Rattle.boundary.specs.Tables.{row, side, start, next, mate, lone, lone-of, face-of, shell-of, outer-of, in-row, parts, in-shell, is-half-place}
+use Rattle.boundary.specs.Changes.{clear-shell, clear-face, clear-loop, clear-vertex, clear-edge, emptied, led, led-half, led-edge, led-in}
+use Rattle.boundary.specs.Operators.{face-in, kvfs, mvfs, kev, mev, mev-before, mev-lone}
+use Rattle.boundary.specs.Refusals.{free, mvfs-refusal, mev-refusal}
 use Rattle.rules.specs.Rules.{Has, Used, Sound}
-use Rattle.rules.proofs.Rows.{has-below, has-row, no-row, row-has, lone-has, row-put-same, row-put-other, row-map, length-put, length-mapped}
+use Rattle.rules.proofs.Rows.{and-true, unless-none, free-not-has, has-below, no-row, row-has, lone-has, row-put-same, row-put-other, row-map, length-put, length-mapped}
+use Rattle.rules.proofs.Counts.{first-part-in}
 use Rattle.rules.proofs.Halves.{half-of-even, half-even, half-odd, mate-of-even, new-even, half-of-odd}
 use Rattle.rules.proofs.Mev.{Free, mev-free, mev-at-half, mev-at-lone}
 use Rattle.rules.proofs.MevBefore.{before-edge, before-edges, next-odd as before-next-odd, new-edge-is as before-new-edge}
@@ -100,22 +102,22 @@ kev-parts-same : (c : Boundary) (h : ℕ) {x x′ : Bool} {n n′ l l′ w w′ 
 kev-parts-same c h p q r t y z = λ i. kev-parts (p i) c h (q i) (r i) (t i) (y i) (z i)
 
 -- at a half-edge
-module _ (b : Boundary) (h k v : ℕ) (p : Point) (s : Sound b) (h-used : Used b h) (k-small : k < 192) (free : Free b k v) where
+module _ (b : Boundary) (h k v : ℕ) (p : Point) (s : Sound b) (h-used : Used b h) (k-small : k < 192) (rows : Free b k v) where
   abbrev c : Boundary
   c = mev-before b h k v p
 
   after-odd : next c (mate (2 * k)) ≡ h
-  after-odd = ap (next c) (mate-of-even k) ∙ before-next-odd b h k v s h-used k-small (free .edge)
+  after-odd = ap (next c) (mate-of-even k) ∙ before-next-odd b h k v s h-used k-small (rows .edge)
 
   start-odd : start c (mate (2 * k)) ≡ v
-  start-odd = ap (start c) (mate-of-even k) ∙ before-new-edge b h k v s h-used k-small (free .edge) .start-odd
+  start-odd = ap (start c) (mate-of-even k) ∙ before-new-edge b h k v s h-used k-small (rows .edge) .start-odd
 
   not-emptied : eqb (next c (mate (2 * k))) (2 * k) ≡ false
-  not-emptied = ne-eqb (next c (mate (2 * k))) (2 * k) (λ e. new-even (b .edges) k h (free .edge) h-used (sym after-odd ∙ e))
+  not-emptied = ne-eqb (next c (mate (2 * k))) (2 * k) (λ e. new-even (b .edges) k h (rows .edge) h-used (sym after-odd ∙ e))
 
   edges-back : set (led-in (before-edges b h k v) (2 * k) h) k None ≡ b .edges
-  edges-back = put-back (b .edges) (led-in (before-edges b h k v) (2 * k) h) k None (length-mapped (led-edge (2 * k) h) (before-edges b h k v) ∙ length-put led-es k _ ∙ length-mapped (led-edge h (2 * k)) (b .edges)) (no-row (b .edges) k (free .edge)) (λ i ne.
-    row-map (led-edge (2 * k) h) (before-edges b h k v) i ∙ ap (mapped (led-edge (2 * k) h)) (row-put-other led-es k i _ ne ∙ row-map (led-edge h (2 * k)) (b .edges) i) ∙ led-row-back h (2 * k) (row (b .edges) i) (nothing-leads b s k i (free .edge)))
+  edges-back = put-back (b .edges) (led-in (before-edges b h k v) (2 * k) h) k None (length-mapped (led-edge (2 * k) h) (before-edges b h k v) ∙ length-put led-es k _ ∙ length-mapped (led-edge h (2 * k)) (b .edges)) (no-row (b .edges) k (rows .edge)) (λ i ne.
+    row-map (led-edge (2 * k) h) (before-edges b h k v) i ∙ ap (mapped (led-edge (2 * k) h)) (row-put-other led-es k i _ ne ∙ row-map (led-edge h (2 * k)) (b .edges) i) ∙ led-row-back h (2 * k) (row (b .edges) i) (nothing-leads b s k i (rows .edge)))
     where
       led-es : List (Option Edge)
       led-es = led-in (b .edges) h (2 * k)
@@ -123,7 +125,7 @@ module _ (b : Boundary) (h k v : ℕ) (p : Point) (s : Sound b) (h-used : Used b
   before-undone : kev (mev-before b h k v p) (2 * k) ≡ b
   before-undone =
       let es = edges-back in
-      let vs = put-clear (b .vertices) v p (free .vertex) in
+      let vs = put-clear (b .vertices) v p (rows .vertex) in
       kev-parts-same c (2 * k) not-emptied after-odd refl refl (half-of-even k) start-odd
       ∙ (λ i. record { shells = b .shells; faces = b .faces; loops = b .loops; edges = es i; vertices = vs i; handles = b .handles })
 
@@ -132,19 +134,19 @@ loop-is : (r : Option Loop) (w : ℕ) → lone-of r ≡ Some w → r ≡ Some (r
 loop-is None w e = absurd (subst (λ o. T (isSome o)) (sym e) tt)
 loop-is (Some x) w e = ap (λ o. Some (record { face = x .face; lone = o })) e
 
-module _ (b : Boundary) (l k v w : ℕ) (p : Point) (s : Sound b) (w-lone : lone b l ≡ Some w) (k-small : k < 192) (free : Free b k v) where
+module _ (b : Boundary) (l k v w : ℕ) (p : Point) (s : Sound b) (w-lone : lone b l ≡ Some w) (k-small : k < 192) (rows : Free b k v) where
   abbrev d : Boundary
   d = record { shells = b .shells; faces = b .faces; loops = bare-loops b l; edges = ring-edges b l k w v; vertices = set (b .vertices) v (Some p); handles = b .handles }
 
   after-odd-lone : next d (mate (2 * k)) ≡ 2 * k
-  after-odd-lone = ap (next d) (mate-of-even k) ∙ lone-next-odd b l k v w s w-lone k-small (free .edge)
+  after-odd-lone = ap (next d) (mate-of-even k) ∙ lone-next-odd b l k v w s w-lone k-small (rows .edge)
 
   start-odd-lone : start d (mate (2 * k)) ≡ v
-  start-odd-lone = ap (start d) (mate-of-even k) ∙ lone-new-edge b l k v w s w-lone k-small (free .edge) .start-odd
+  start-odd-lone = ap (start d) (mate-of-even k) ∙ lone-new-edge b l k v w s w-lone k-small (rows .edge) .start-odd
 
   ring-back : set (led-in (ring-edges b l k w v) (2 * k) (2 * k)) k None ≡ b .edges
-  ring-back = put-back (b .edges) (led-in (ring-edges b l k w v) (2 * k) (2 * k)) k None (length-mapped (led-edge (2 * k) (2 * k)) (ring-edges b l k w v) ∙ length-put (b .edges) k _) (no-row (b .edges) k (free .edge)) (λ i ne.
-    row-map (led-edge (2 * k) (2 * k)) (ring-edges b l k w v) i ∙ ap (mapped (led-edge (2 * k) (2 * k))) (row-put-other (b .edges) k i _ ne) ∙ led-row-not (2 * k) (2 * k) (row (b .edges) i) (nothing-leads b s k i (free .edge)))
+  ring-back = put-back (b .edges) (led-in (ring-edges b l k w v) (2 * k) (2 * k)) k None (length-mapped (led-edge (2 * k) (2 * k)) (ring-edges b l k w v) ∙ length-put (b .edges) k _) (no-row (b .edges) k (rows .edge)) (λ i ne.
+    row-map (led-edge (2 * k) (2 * k)) (ring-edges b l k w v) i ∙ ap (mapped (led-edge (2 * k) (2 * k))) (row-put-other (b .edges) k i _ ne) ∙ led-row-not (2 * k) (2 * k) (row (b .edges) i) (nothing-leads b s k i (rows .edge)))
 
   bare-row : row (bare-loops b l) l ≡ Some (bare-loop b l)
   bare-row = row-put-same (b .loops) l (Some (bare-loop b l)) (has-below (b .loops) l (lone-has b l w w-lone))
@@ -157,8 +159,8 @@ module _ (b : Boundary) (l k v w : ℕ) (p : Point) (s : Sound b) (w-lone : lone
   lone-undone =
       let ls = loops-back in
       let es = ring-back in
-      let vs = put-clear (b .vertices) v p (free .vertex) in
-      let new = lone-new-edge b l k v w s w-lone k-small (free .edge) in
+      let vs = put-clear (b .vertices) v p (rows .vertex) in
+      let new = lone-new-edge b l k v w s w-lone k-small (rows .edge) in
       kev-parts-same d (2 * k) (eq-eqb (next d (mate (2 * k))) (2 * k) after-odd-lone) after-odd-lone (new .owner-even) (new .start-even) (half-of-even k) start-odd-lone
       ∙ (λ i. record { shells = b .shells; faces = b .faces; loops = ls i; edges = es i; vertices = vs i; handles = b .handles })
 
@@ -168,3 +170,78 @@ kev-undoes-mev b a k v p s at k-small v-small q = go (is-half-place a) refl
     go : (x : Bool) → is-half-place a ≡ x → kev (mev b a k v p) (2 * k) ≡ b
     go true e = ap (λ x. kev (cond x (mev-before b a k v p) (mev-lone b (a - 512) k v p)) (2 * k)) e ∙ before-undone b a k v p s (mev-at-half b a k v q e) k-small (mev-free b a k v q)
     go false e = ap (λ x. kev (cond x (mev-before b a k v p) (mev-lone b (a - 512) k v p)) (2 * k)) e ∙ lone-undone b (a - 512) k v (valueOr (lone b (a - 512)) 0) p s (mev-at-lone b a k v q e) k-small (mev-free b a k v q)
+
+-- a shell with its face, loop and vertex
+record FreeShell (b : Boundary) (a f l v : ℕ) : Type 0 where
+  shell : Has (b .shells) a → ⊥
+  face : Has (b .faces) f → ⊥
+  loop : Has (b .loops) l → ⊥
+  vertex : Has (b .vertices) v → ⊥
+
+mvfs-free : (b : Boundary) (a f l v : ℕ) → mvfs-refusal b a f l v ≡ None → FreeShell b a f l v
+mvfs-free b a f l v q =
+    let one = unless-none (free (b .shells) a && (free (b .faces) f && (free (b .loops) l && free (b .vertices) v))) Taken None q .0 in
+    let two = and-true (free (b .shells) a) (free (b .faces) f && (free (b .loops) l && free (b .vertices) v)) one in
+    let three = and-true (free (b .faces) f) (free (b .loops) l && free (b .vertices) v) (two .1) in
+    let four = and-true (free (b .loops) l) (free (b .vertices) v) (three .1) in
+    record {
+      shell = free-not-has (b .shells) a (two .0);
+      face = free-not-has (b .faces) f (three .0);
+      loop = free-not-has (b .loops) l (four .0);
+      vertex = free-not-has (b .vertices) v (four .1);
+    }
+
+-- a row that lies in k is counted
+abbrev tally : Bool → ℕ
+tally y = cond y 1 0
+
+part-counted : {X : Type 0} (w : X → ℕ) (t : List (Option X)) (k i : ℕ) (x : X) → row t i ≡ Some x → w x ≡ k → 0 < parts w t k
+part-counted w t k i x e q =
+    let one : tally (in-row w k (row t i)) ≡ 1 = ap (λ r. tally (in-row w k r)) e ∙ ap tally (eq-eqb (w x) k q) in
+    omega (arith, one, getD-le-sumBy (λ r. cond (in-row w k r) 1 0) t i None (has-below t i (row-has t i x e)))
+
+abbrev kvfs-parts : Boundary → ℕ → ℕ → ℕ → ℕ → Boundary
+kvfs-parts c a f l v = clear-vertex (clear-loop (clear-face (clear-shell c a) f) l) v
+
+module _ (b : Boundary) (a f l v : ℕ) (p : Point) (s : Sound b) (f-small : f < 96) (l-small : l < 96) (open-rows : FreeShell b a f l v) where
+  abbrev made : Boundary
+  made = mvfs b a f l v p
+
+  face-row : row (made .faces) f ≡ Some (record { shell = a; outer = l })
+  face-row = row-put-same (b .faces) f _ (let z = s .sizes .faces in omega arith)
+
+  loop-row : row (made .loops) l ≡ Some (record { face = f; lone = Some v })
+  loop-row = row-put-same (b .loops) l _ (let z = s .sizes .loops in omega arith)
+
+  -- no other face lies in the new shell
+  face-is : face-in made a ≡ f
+  face-is =
+      let x = first-part-in in-shell (made .faces) a (part-counted in-shell (made .faces) a f (record { shell = a; outer = l }) face-row refl) in
+      elim (ℕ-discrete (face-in made a) f) [
+        | yes e ↦ e
+        | no ne ↦
+            let old : row (b .faces) (face-in made a) ≡ Some (x .0) = sym (row-put-other (b .faces) f (face-in made a) _ ne) ∙ x .1 in
+            let used-shell = s .named .shell-used (face-in made a) (row-has (b .faces) (face-in made a) (x .0) old) in
+            absurd (open-rows .shell (subst (Has (b .shells)) (ap shell-of old ∙ x .2) used-shell))
+      ]
+
+  outer-is : outer-of (row (made .faces) (face-in made a)) ≡ l
+  outer-is = ap (λ i. outer-of (row (made .faces) i)) face-is ∙ ap outer-of face-row
+
+  vertex-is : valueOr (lone made (outer-of (row (made .faces) (face-in made a)))) 0 ≡ v
+  vertex-is = ap (λ i. valueOr (lone made i) 0) outer-is ∙ ap (λ r. valueOr (lone-of r) 0) loop-row
+
+  shell-undone : kvfs (mvfs b a f l v p) a ≡ b
+  shell-undone =
+      let ss = put-clear (b .shells) a (record {}) (open-rows .shell) in
+      let fs = put-clear (b .faces) f (record { shell = a; outer = l }) (open-rows .face) in
+      let ls = put-clear (b .loops) l (record { face = f; lone = Some v }) (open-rows .loop) in
+      let vs = put-clear (b .vertices) v p (open-rows .vertex) in
+      let x = face-is in
+      let y = outer-is in
+      let z = vertex-is in
+      (λ i. kvfs-parts made a (x i) (y i) (z i))
+      ∙ (λ i. record { shells = ss i; faces = fs i; loops = ls i; edges = b .edges; vertices = vs i; handles = b .handles })
+
+pub kvfs-undoes-mvfs : (b : Boundary) (a f l v : ℕ) (p : Point) → Sound b → a < 8 → f < 96 → l < 96 → v < 128 → mvfs-refusal b a f l v ≡ None → kvfs (mvfs b a f l v p) a ≡ b
+kvfs-undoes-mvfs b a f l v p s a-small f-small l-small v-small q = shell-undone b a f l v p s f-small l-small (mvfs-free b a f l v q)
