@@ -2,7 +2,6 @@
 use mathlib.Core.Path.{_≡_, refl, sym, ap, subst, _∙_}
 use mathlib.Core.Logic.{_≢_, _⊎_, inl, inr}
 use Prim.Native.Nat.{ℕ, zero, suc}
-use native.Mathlib.Decide.{ℕ-discrete}
 use Rattle.rings.specs.Rings.{walk, Rings}
 use Rattle.rings.specs.Euler.{put}
 use Rattle.rings.proofs.Put.{put-same, put-other}

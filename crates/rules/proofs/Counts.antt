@@ -77,6 +77,12 @@ module _ {X : Type 0} where
   one-part w t k i j x y one ri wi rj wj =
       only-one (in-row w k) t i j (has-below t i (row-has t i x ri)) (has-below t j (row-has t j y rj)) one refl (in-row-some w k (row t i) x ri wi) (in-row-some w k (row t j) y rj wj)
 
+  -- a row that lies in k is counted
+  pub part-counted : (w : X → ℕ) (t : List (Option X)) (k i : ℕ) (x : X) → row t i ≡ Some x → w x ≡ k → 0 < parts w t k
+  part-counted w t k i x e q =
+      let one : tally (in-row w k (row t i)) ≡ 1 = ap tally (in-row-some w k (row t i) x e q) in
+      omega (arith, one, getD-le-sumBy (λ r. cond (in-row w k r) 1 0) t i None (has-below t i (row-has t i x e)))
+
   first-in-row : (w : X → ℕ) (t : List (Option X)) (k : ℕ) → 0 < parts w t k → in-row w k (row t (first-part w t k)) ≡ true
   unfolding first-part
   first-in-row w [] k pos = absurd (let none : 0 < 0 = pos in omega arith)

@@ -2,7 +2,7 @@
 --     grown b ls es v p     b with the loops ls, the edges es and the new vertex v at p
 --     NewEdge               es is that of b with the edge k from w to v, both halves on the loop l
 --     LoopsFor              ls is that of b, but that l has no lone vertex, and w is lone on no loop
-use mathlib.Core.Path.{_≡_, refl, sym, ap, subst, _∙_}
+use mathlib.Core.Path.{_≡_, sym, ap, subst, _∙_}
 use mathlib.Core.Logic.{_≢_, _⊎_, inl, inr}
 use mathlib.Core.List.{List}
 use Prim.Native.Nat.{ℕ, _+_, _*_, _/_, _<_}

@@ -5,7 +5,7 @@ use mathlib.Core.Path.{_≡_, refl, sym, ap, subst, _∙_}
 use mathlib.Core.Logic.{_≢_, _⊎_, inl, inr}
 use mathlib.Core.Bool.{Bool, true, false}
 use mathlib.Core.List.{List}
-use Prim.Native.Nat.{ℕ, _+_, _*_, _/_, _<_}
+use Prim.Native.Nat.{ℕ, _/_, _<_}
 use native.Mathlib.Decide.{ℕ-discrete}
 use native.Mathlib.Omega.{arith}
 use lib.Dec.{eqb}
@@ -21,11 +21,10 @@ use Rattle.boundary.specs.Changes.{clear-vertex, clear-edge, emptied, led}
 use Rattle.boundary.specs.Operators.{kev}
 use Rattle.boundary.specs.Refusals.{unless, kev-refusal}
 use Rattle.rules.specs.Rules.{Has, Used, Sizes, Named, LoneVertices, Outer, OneShell, Balanced, Sound}
-use Rattle.rules.proofs.Rows.{true-T, unless-none, has-below, row-put-same, row-put-other, has-put-other-in, has-put-again, has-clear-in, has-clear-out, length-put}
+use Rattle.rules.proofs.Rows.{true-T, unless-none, none-not-some, some-same, has-below, row-put-same, row-put-other, has-put-other-in, has-put-again, has-clear-in, has-clear-out, length-put}
 use Rattle.rules.proofs.Counts.{count-put-used, count-clear}
-use Rattle.rules.proofs.Halves.{mate-apart, mate-mate, mate-same, used-mate}
+use Rattle.rules.proofs.Halves.{mate-apart, used-mate}
 use Rattle.rules.proofs.Views.{loop-rings-by, vertex-rings-by, continues-by}
-use Rattle.rules.proofs.MevLone.{none-not-some, some-same}
 use Rattle.rules.proofs.KevHalves.{kev-edges, mate-used-too, left-in, left-out, left-start, left-owner, left-size, left-count, left-loops, left-vertices, only-mate, same-loop, none-on-loop, none-at-start, after-left, after-owner, after-start}
 
 abbrev pub shrunk : Boundary → List (Option Loop) → ℕ → Boundary

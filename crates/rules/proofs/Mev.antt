@@ -1,6 +1,6 @@
 -- A new edge and a new vertex, at a half-edge or at a lone vertex, keep the rules.
 use mathlib.Core.Path.{_≡_, refl, sym, ap, subst, _∙_}
-use mathlib.Core.Logic.{_⊎_, inl, inr}
+use mathlib.Core.Logic.{_⊎_}
 use mathlib.Core.Bool.{Bool, true, false, cond, _&&_}
 use Prim.Native.Nat.{ℕ, _-_, _<_, _≤_}
 use Rattle.std.specs.Options.{isSome, valueOr}

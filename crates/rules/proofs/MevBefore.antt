@@ -1,16 +1,16 @@
 -- The new edge k at a half-edge h: 2k and 2k + 1 come just before h, and the rules are kept.
-use mathlib.Core.Path.{_≡_, refl, sym, ap, subst, _∙_}
+use mathlib.Core.Path.{_≡_, refl, sym, ap, _∙_}
 use mathlib.Core.Logic.{_≢_, _⊎_, inl, inr}
 use mathlib.Core.List.{List}
 use Prim.Native.Nat.{ℕ, _+_, _*_, _/_, _<_}
 use native.Mathlib.Omega.{arith}
 use lib.ListN.{length, set}
 use Rattle.std.specs.declared.option.Option.{Option}
-use Rattle.std.specs.declared.option.Option.the-variants.{None, Some}
+use Rattle.std.specs.declared.option.Option.the-variants.{Some}
 use Rattle.boundary.specs.declared.Point.{Point}
 use Rattle.boundary.specs.declared.Edge.{Edge}
 use Rattle.boundary.specs.declared.Boundary.{Boundary}
-use Rattle.boundary.specs.Tables.{count, half-in, start, next, owner, mate}
+use Rattle.boundary.specs.Tables.{half-in, start, next, owner, mate}
 use Rattle.boundary.specs.Changes.{led-edge, led-in}
 use Rattle.boundary.specs.Operators.{half-edge, edge, mev-before}
 use Rattle.rings.specs.Rings.{Rings}
@@ -18,10 +18,10 @@ use Rattle.rings.proofs.Facts.{before}
 use Rattle.rules.specs.Rules.{Has, Used, turn, Sound}
 use Rattle.rules.proofs.Rows.{has-apart, has-map-in, has-map-out, length-put, length-mapped}
 use Rattle.rules.proofs.Counts.{count-put-free, count-map}
-use Rattle.rules.proofs.Halves.{mate-of-even, mate-of-odd, mate-mate, mate-same, used-mate, new-edge, new-odd, put-even, put-odd, half-put-other, put-used-even, put-used-odd, put-used-in, put-used-cases, led-start, led-owner, led-hit, led-miss, half-of-odd}
-use Rattle.rules.proofs.Views.{loop-rings, vertex-rings, apart-by}
+use Rattle.rules.proofs.Halves.{mate-of-even, mate-of-odd, mate-mate, used-mate, new-edge, new-odd, put-even, put-odd, half-put-other, put-used-even, put-used-odd, put-used-in, put-used-cases, led-start, led-owner, led-hit, led-miss}
+use Rattle.rules.proofs.Views.{loop-rings, vertex-rings}
 use Rattle.rules.proofs.Added.{TwoMore, pair-inserted, one-inserted}
-use Rattle.rules.proofs.Grown.{NewEdge, LoopsFor, grown, grown-sound}
+use Rattle.rules.proofs.Grown.{NewEdge, LoopsFor, grown-sound}
 
 -- the new edge, and the edges with it
 abbrev pub before-edge : Boundary → ℕ → ℕ → ℕ → Edge

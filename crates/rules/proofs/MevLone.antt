@@ -1,13 +1,11 @@
 -- The new edge k at a loop l with a lone vertex w: 2k and 2k + 1 become its ring, and the rules are kept.
-use mathlib.Core.Path.{_≡_, refl, sym, ap, subst, _∙_}
+use mathlib.Core.Path.{_≡_, refl, sym, ap, _∙_}
 use mathlib.Core.Logic.{_≢_, _⊎_, inl, inr}
 use mathlib.Core.List.{List}
 use Prim.Native.Nat.{ℕ, _+_, _*_, _/_, _<_}
 use native.Mathlib.Decide.{ℕ-discrete}
 use native.Mathlib.Omega.{arith}
-use lib.Dec.{T}
 use lib.ListN.{length, set}
-use Rattle.std.specs.Options.{isSome}
 use Rattle.std.specs.declared.option.Option.{Option}
 use Rattle.std.specs.declared.option.Option.the-variants.{None, Some}
 use Rattle.boundary.specs.declared.Point.{Point}
@@ -18,19 +16,12 @@ use Rattle.boundary.specs.Tables.{row, half-in, start, next, owner, mate, lone,
 use Rattle.boundary.specs.Operators.{half-edge, edge}
 use Rattle.rings.specs.Rings.{Rings}
 use Rattle.rules.specs.Rules.{Has, Used, Sound}
-use Rattle.rules.proofs.Rows.{has-below, has-apart, lone-has, row-put-same, row-put-other, has-put-other-in, has-put-again, length-put}
+use Rattle.rules.proofs.Rows.{none-not-some, some-same, has-below, has-apart, lone-has, row-put-same, row-put-other, has-put-other-in, has-put-again, length-put}
 use Rattle.rules.proofs.Counts.{count-put-free, count-put-used}
 use Rattle.rules.proofs.Halves.{mate-of-even, mate-of-odd, used-mate, new-edge, new-odd, put-even, put-odd, half-put-other, put-used-even, put-used-odd, put-used-in, put-used-cases}
 use Rattle.rules.proofs.Views.{loop-rings, vertex-rings}
 use Rattle.rules.proofs.Added.{TwoMore, pair-started, two-started}
 use Rattle.rules.proofs.Grown.{NewEdge, LoopsFor, grown, grown-sound}
-
--- what has a value is not without
-pub none-not-some : {X : Type 0} (o : Option X) (x : X) → o ≡ None → o ≡ Some x → ⊥
-none-not-some o x n e = subst (λ r. T (isSome r)) n (subst (λ r. T (isSome r)) (sym e) tt)
-
-pub some-same : {X : Type 0} (o : Option X) (x y : X) → o ≡ Some x → o ≡ Some y → x ≡ y
-some-same o x y p q = cc
 
 abbrev pub ring-edge : ℕ → ℕ → ℕ → ℕ → Edge
 ring-edge l k w v = edge (half-edge w (2 * k + 1) l) (half-edge v (2 * k) l)

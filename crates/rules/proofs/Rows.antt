@@ -92,6 +92,13 @@ module _ {X : Type 0} where
   pub row-not-has : (t : List (Option X)) (k : ℕ) → row t k ≡ None → Has t k → ⊥
   row-not-has t k e u = subst (λ r. T (isSome r)) e u
 
+  -- what has a value is not without one, and has no other
+  pub none-not-some : (o : Option X) (x : X) → o ≡ None → o ≡ Some x → ⊥
+  none-not-some o x n e = subst (λ r. T (isSome r)) n (subst (λ r. T (isSome r)) (sym e) tt)
+
+  pub some-same : (o : Option X) (x y : X) → o ≡ Some x → o ≡ Some y → x ≡ y
+  some-same o x y p q = cc
+
   pub has? : (t : List (Option X)) (k : ℕ) → Dec (Has t k)
   has? t k = T-dec (used t k)
 

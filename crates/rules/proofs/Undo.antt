@@ -1,9 +1,9 @@
 -- What makes an edge or a shell is undone by what takes it away, to the same boundary.
 use mathlib.Core.Path.{_≡_, refl, sym, ap, subst, _∙_}
-use mathlib.Core.Logic.{_≢_, _⊎_, inl, inr}
+use mathlib.Core.Logic.{_≢_, _⊎_}
 use mathlib.Core.Bool.{Bool, true, false, cond, _&&_}
-use mathlib.Core.List.{List, map}
-use Prim.Native.Nat.{ℕ, _+_, _*_, _-_, _/_, _<_, _≤_}
+use mathlib.Core.List.{List}
+use Prim.Native.Nat.{ℕ, _+_, _*_, _-_, _<_, _≤_}
 use native.Mathlib.Decide.{ℕ-discrete}
 use native.Mathlib.Omega.{arith}
 use lib.Dec.{T, eqb}
@@ -12,7 +12,6 @@ use Rattle.std.specs.Options.{isSome, mapped, valueOr}
 use Rattle.std.specs.declared.option.Option.{Option}
 use Rattle.std.specs.declared.option.Option.the-variants.{None, Some}
 use Rattle.std.proofs.shelf.Lists.{ext-getD}
-use Rattle.std.proofs.shelf.Sums.{getD-le-sumBy}
 use Rattle.std.proofs.shelf.Tests.{eq-eqb, ne-eqb, cond-true, cond-false}
 use Rattle.boundary.specs.declared.Point.{Point}
 use Rattle.boundary.specs.declared.HalfEdge.{HalfEdge}
@@ -20,17 +19,17 @@ use Rattle.boundary.specs.declared.Edge.{Edge}
 use Rattle.boundary.specs.declared.Loop.{Loop}
 use Rattle.boundary.specs.declared.Boundary.{Boundary}
 use Rattle.boundary.specs.declared.Refusal.the-variants.{Taken}
-use Rattle.boundary.specs.Tables.{row, side, start, next, mate, lone, lone-of, face-of, shell-of, outer-of, in-row, parts, in-shell, is-half-place}
+use Rattle.boundary.specs.Tables.{row, side, start, next, mate, lone, lone-of, face-of, shell-of, outer-of, in-shell, is-half-place}
 use Rattle.boundary.specs.Changes.{clear-shell, clear-face, clear-loop, clear-vertex, clear-edge, emptied, led, led-half, led-edge, led-in}
 use Rattle.boundary.specs.Operators.{face-in, kvfs, mvfs, kev, mev, mev-before, mev-lone}
 use Rattle.boundary.specs.Refusals.{free, mvfs-refusal, mev-refusal}
 use Rattle.rules.specs.Rules.{Has, Used, Sound}
 use Rattle.rules.proofs.Rows.{and-true, unless-none, free-not-has, has-below, no-row, row-has, lone-has, row-put-same, row-put-other, row-map, length-put, length-mapped}
-use Rattle.rules.proofs.Counts.{first-part-in}
+use Rattle.rules.proofs.Counts.{part-counted, first-part-in}
 use Rattle.rules.proofs.Halves.{half-of-even, half-even, half-odd, mate-of-even, new-even, half-of-odd}
 use Rattle.rules.proofs.Mev.{Free, mev-free, mev-at-half, mev-at-lone}
-use Rattle.rules.proofs.MevBefore.{before-edge, before-edges, next-odd as before-next-odd, new-edge-is as before-new-edge}
-use Rattle.rules.proofs.MevLone.{ring-edge, ring-edges, bare-loop, bare-loops, next-odd as lone-next-odd, new-edge-is as lone-new-edge}
+use Rattle.rules.proofs.MevBefore.{before-edges, next-odd as before-next-odd, new-edge-is as before-new-edge}
+use Rattle.rules.proofs.MevLone.{ring-edges, bare-loop, bare-loops, next-odd as lone-next-odd, new-edge-is as lone-new-edge}
 
 -- a table that differs from t at k alone is t again once its row k is
 pub put-back : {X : Type 0} (t z : List (Option X)) (k : ℕ) (r : Option X) → length z ≡ length t → row t k ≡ r → ((i : ℕ) → i ≢ k → row z i ≡ row t i) → set z k r ≡ t
@@ -117,7 +116,7 @@ module _ (b : Boundary) (h k v : ℕ) (p : Point) (s : Sound b) (h-used : Used b
 
   edges-back : set (led-in (before-edges b h k v) (2 * k) h) k None ≡ b .edges
   edges-back = put-back (b .edges) (led-in (before-edges b h k v) (2 * k) h) k None (length-mapped (led-edge (2 * k) h) (before-edges b h k v) ∙ length-put led-es k _ ∙ length-mapped (led-edge h (2 * k)) (b .edges)) (no-row (b .edges) k (rows .edge)) (λ i ne.
-    row-map (led-edge (2 * k) h) (before-edges b h k v) i ∙ ap (mapped (led-edge (2 * k) h)) (row-put-other led-es k i _ ne ∙ row-map (led-edge h (2 * k)) (b .edges) i) ∙ led-row-back h (2 * k) (row (b .edges) i) (nothing-leads b s k i (rows .edge)))
+      row-map (led-edge (2 * k) h) (before-edges b h k v) i ∙ ap (mapped (led-edge (2 * k) h)) (row-put-other led-es k i _ ne ∙ row-map (led-edge h (2 * k)) (b .edges) i) ∙ led-row-back h (2 * k) (row (b .edges) i) (nothing-leads b s k i (rows .edge)))
     where
       led-es : List (Option Edge)
       led-es = led-in (b .edges) h (2 * k)
@@ -146,7 +145,7 @@ module _ (b : Boundary) (l k v w : ℕ) (p : Point) (s : Sound b) (w-lone : lone
 
   ring-back : set (led-in (ring-edges b l k w v) (2 * k) (2 * k)) k None ≡ b .edges
   ring-back = put-back (b .edges) (led-in (ring-edges b l k w v) (2 * k) (2 * k)) k None (length-mapped (led-edge (2 * k) (2 * k)) (ring-edges b l k w v) ∙ length-put (b .edges) k _) (no-row (b .edges) k (rows .edge)) (λ i ne.
-    row-map (led-edge (2 * k) (2 * k)) (ring-edges b l k w v) i ∙ ap (mapped (led-edge (2 * k) (2 * k))) (row-put-other (b .edges) k i _ ne) ∙ led-row-not (2 * k) (2 * k) (row (b .edges) i) (nothing-leads b s k i (rows .edge)))
+      row-map (led-edge (2 * k) (2 * k)) (ring-edges b l k w v) i ∙ ap (mapped (led-edge (2 * k) (2 * k))) (row-put-other (b .edges) k i _ ne) ∙ led-row-not (2 * k) (2 * k) (row (b .edges) i) (nothing-leads b s k i (rows .edge)))
 
   bare-row : row (bare-loops b l) l ≡ Some (bare-loop b l)
   bare-row = row-put-same (b .loops) l (Some (bare-loop b l)) (has-below (b .loops) l (lone-has b l w w-lone))
@@ -191,15 +190,7 @@ mvfs-free b a f l v q =
       vertex = free-not-has (b .vertices) v (four .1);
     }
 
--- a row that lies in k is counted
-abbrev tally : Bool → ℕ
-tally y = cond y 1 0
-
-part-counted : {X : Type 0} (w : X → ℕ) (t : List (Option X)) (k i : ℕ) (x : X) → row t i ≡ Some x → w x ≡ k → 0 < parts w t k
-part-counted w t k i x e q =
-    let one : tally (in-row w k (row t i)) ≡ 1 = ap (λ r. tally (in-row w k r)) e ∙ ap tally (eq-eqb (w x) k q) in
-    omega (arith, one, getD-le-sumBy (λ r. cond (in-row w k r) 1 0) t i None (has-below t i (row-has t i x e)))
-
+-- the operator with what it reads handed to it
 abbrev kvfs-parts : Boundary → ℕ → ℕ → ℕ → ℕ → Boundary
 kvfs-parts c a f l v = clear-vertex (clear-loop (clear-face (clear-shell c a) f) l) v
 
