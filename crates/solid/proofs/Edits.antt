@@ -1,5 +1,5 @@
 -- From an edit to the operator that carries it out: its numbers are in range, and what the operator decides is what is to be decided of the edit.
-use mathlib.Core.Path.{_≡_, refl, sym, ap, _∙_}
+use mathlib.Core.Path.{_≡_, sym, ap, subst, _∙_}
 use mathlib.Core.Bool.{Bool, true, false, _&&_, _||_}
 use Prim.Native.Nat.{ℕ, _<_, _≤_}
 use native.Mathlib.Omega.{arith}
@@ -19,26 +19,31 @@ use Rattle.boundary.specs.declared.Refusal.{Refusal}
 use Rattle.boundary.specs.declared.Refusal.the-variants.{OutOfRange}
 use Rattle.boundary.specs.Operators.{named, applied, mvfs, kvfs, mev, kev, mef, kef, kemr, mekr, kfmrh, move}
 use Rattle.boundary.specs.Refusals.{below, is-place, is-vertex, is-edge, is-half, in-range, refusal, refusal-within, mvfs-refusal, kvfs-refusal, mev-refusal, kev-refusal, mef-refusal, kef-refusal, kemr-refusal, mekr-refusal, kfmrh-refusal, move-refusal, after, answer, unless, unchanged}
+use Rattle.rules.specs.Rules.{Sound}
+use Rattle.rules.proofs.Histories.{after-keeps}
 use Rattle.solid.specs.Steps.{Decided}
 
 -- what a call that is asked for an edit answers and leaves
 pub record Done (b : Boundary) (e : Edit) (r : Result (Unit {0}) Refusal) (b′ : Boundary) : Type 0 where
   pub reply : r ≡ answer (refusal b e)
   pub left : b′ ≡ after b e
+  pub sound : Sound b → Sound b′
+
+-- an edit keeps the rules
+done : (b : Boundary) (e : Edit) (r : Result (Unit {0}) Refusal) (b′ : Boundary) → r ≡ answer (refusal b e) → b′ ≡ after b e → Done b e r b′
+done b e r b′ reply left = record { reply = reply; left = left; sound = λ s. subst Sound (sym left) (after-keeps b e s) }
 
 pub out-of-range : (b : Boundary) (e : Edit) → false ≡ in-range e → Done b e (Err OutOfRange) b
 unfolding refusal after
-out-of-range b e h = record {
-  reply = ap (λ t. answer (unless t OutOfRange (refusal-within b e))) h;
-  left = ap (λ t. unchanged (unless t OutOfRange (refusal-within b e)) b (applied b e)) h;
-}
+out-of-range b e h =
+    done b e _ b (ap (λ t. answer (unless t OutOfRange (refusal-within b e))) h)
+    (ap (λ t. unchanged (unless t OutOfRange (refusal-within b e)) b (applied b e)) h)
 
 pub decided : (b : Boundary) (e : Edit) (o : Option Refusal) (new : Boundary) (r : Result (Unit {0}) Refusal) (b′ : Boundary) → true ≡ in-range e → o ≡ refusal-within b e → new ≡ applied b e → Decided o b new r b′ → Done b e r b′
 unfolding refusal after
-decided b e o new r b′ h eo en d = record {
-  reply = d .reply ∙ ap answer (eo ∙ ap (λ t. unless t OutOfRange (refusal-within b e)) h);
-  left = d .leaves ∙ (λ i. unchanged (eo i) b (en i)) ∙ ap (λ t. unchanged (unless t OutOfRange (refusal-within b e)) b (applied b e)) h;
-}
+decided b e o new r b′ h eo en d =
+    done b e r b′ (d .reply ∙ ap answer (eo ∙ ap (λ t. unless t OutOfRange (refusal-within b e)) h))
+    (d .leaves ∙ (λ i. unchanged (eo i) b (en i)) ∙ ap (λ t. unchanged (unless t OutOfRange (refusal-within b e)) b (applied b e)) h)
 
 named-below : (n : ℕ) (z : ℤ) (k : ℕ) → n ≤ 65536 → below n z ≡ true → k ≡ named z → k < n
 named-below n (pos m) k small h e = let lt = ltb-true m n h in rw (e, lt-ltb m 65536 (omega arith)) lt

@@ -2,6 +2,8 @@
 ghost use mathlib.Core.Path.{_≡_};
 ghost use Rattle.boundary.specs.Operators.{empty};
 ghost use Rattle.boundary.specs.Refusals.{refusal, after, answer};
+ghost use Rattle.rules.specs.Histories.{after-all, handles-made};
+ghost use Rattle.rules.specs.Rules.{Sound};
 use boundary::Boundary;
 use boundary::Edit;
 use boundary::Refusal;
@@ -27,6 +29,19 @@ impl Solid {
         }
     }
 
+    // The solid of a list of edits, of which each refused one changes nothing.
+    pub fn build(edits: &[Edit]) -> Solid
+        ensures is { λ r. ⌜ r .boundary ≡ after-all empty (now (edits .entry)) ⌝ }
+        ensures sound { λ r. ⌜ Sound (r .boundary) ⌝ }
+        ensures handles { λ r. ⌜ r .boundary .handles ≡ handles-made empty (now (edits .entry)) ⌝ }
+    {
+        let mut solid = Solid::empty();
+        for edit in edits {
+            let _ = solid.apply(*edit);
+        }
+        solid
+    }
+
     // The rows, to look at.
     pub fn boundary(&self) -> &Boundary
         ensures { λ r. ⌜ now r ≡ now (self .entry) .boundary ⌝ }
@@ -39,6 +54,7 @@ impl Solid {
     pub fn apply(&mut self, edit: Edit) -> Result<(), Refusal>
         ensures reply { λ r. ⌜ r ≡ answer (refusal (now (self .entry) .boundary) edit) ⌝ }
         ensures left { λ _. ⌜ now (self .exit) .boundary ≡ after (now (self .entry) .boundary) edit ⌝ }
+        ensures sound { λ _. ⌜ (Sound (now (self .entry) .boundary) → Sound (now (self .exit) .boundary)) ⌝ }
     {
         if !in_range(edit) {
             return Err(Refusal::OutOfRange);
