@@ -7,6 +7,7 @@ use Prim.Native.Nat.{ℕ, zero, suc, _+_, _/_}
 use native.Mathlib.Decide.{ℕ-discrete}
 use lib.Dec.{T, eqb}
 use lib.ListN.{length, set}
+use Rattle.std.specs.Options.{isSome, valueOr}
 use Rattle.std.specs.declared.option.Option.{Option}
 use Rattle.std.specs.declared.option.Option.the-variants.{None, Some}
 use Rattle.std.proofs.shelf.Tests.{eq-eqb, ne-eqb, cond-true, cond-false}
@@ -27,6 +28,13 @@ use Rattle.rules.proofs.Rows.{has-below, has-put-other-in, has-put-again, row-
 use Rattle.rules.proofs.Counts.{count-put-used, count-clear, count-map}
 use Rattle.rules.proofs.Halves.{mate-apart, other-edge, half-put-other, clear-mates-in, clear-mates-out, led-start, led-owner, led-hit, led-miss}
 use Rattle.rules.proofs.Views.{paired, loop-rings, vertex-rings}
+
+-- a lone vertex is one, and the one it is
+pub some-same : (u v : ℕ) → _≡_ {A = Option ℕ} (Some u) (Some v) → u ≡ v
+some-same u v e = ap (λ o. valueOr o 0) e
+
+pub some-none : (v : ℕ) → _≡_ {A = Option ℕ} (Some v) None → ⊥
+some-none v e = subst (λ r. T (isSome r)) e tt
 
 -- a walk stays in what each step stays in
 reach-in : {f : ℕ → ℕ} (P : ℕ → Type 0) → ((i : ℕ) → P i → P (f i)) → (h k : ℕ) → P h → Reaches f h k → P k

@@ -6,9 +6,8 @@ use mathlib.Core.List.{List}
 use Prim.Native.Nat.{ℕ, _+_, _/_, _<_}
 use native.Mathlib.Decide.{ℕ-discrete}
 use native.Mathlib.Omega.{arith}
-use lib.Dec.{T, eqb}
+use lib.Dec.{eqb}
 use lib.ListN.{length, set}
-use Rattle.std.specs.Options.{isSome, valueOr}
 use Rattle.std.specs.declared.option.Option.{Option}
 use Rattle.std.specs.declared.option.Option.the-variants.{None, Some}
 use Rattle.std.proofs.shelf.Tests.{eqb-true, eq-eqb, ne-eqb, cond-true, cond-false, and-from, and-left, and-right}
@@ -32,7 +31,7 @@ use Rattle.rules.proofs.Counts.{count-clear, count-map}
 use Rattle.rules.proofs.Fields.{one-loop-in}
 use Rattle.rules.proofs.Halves.{mate-mate, mate-apart, used-mate, joined-start, joined-next, joined-owner}
 use Rattle.rules.proofs.Views.{loop-rings, vertex-rings, loop-rings-by, vertex-rings-by, continues-by, next-used-by}
-use Rattle.rules.proofs.Erase.{alone-in, pair-in, past-on, past-over, Gone, halves-apart, erased, turns-left, after-x, after-y, Alike, erased-in, erased-in-use, erased-length, erased-count, erased-still, erased-start, erased-owner, erased-first, erased-second, erased-other, lone-put, emptied-is, lone-put-has-in, lone-put-has-out, lone-put-other, lone-put-face, lone-put-true, lone-put-false, lone-put-length, lone-put-count}
+use Rattle.rules.proofs.Erase.{some-same, some-none, alone-in, pair-in, past-on, past-over, Gone, halves-apart, erased, turns-left, after-x, after-y, Alike, erased-in, erased-in-use, erased-length, erased-count, erased-still, erased-start, erased-owner, erased-first, erased-second, erased-other, lone-put, emptied-is, lone-put-has-in, lone-put-has-out, lone-put-other, lone-put-face, lone-put-true, lone-put-false, lone-put-length, lone-put-count}
 
 -- what an accepted edit says of the half-edge x and its mate y
 record Asked (b : Boundary) (x y : ℕ) : Type 0 where
@@ -83,12 +82,6 @@ alone? b x y = elim (ℕ-discrete (next b x) x) [
   | yes p ↦ elim (ℕ-discrete (next b y) y) [ yes q ↦ yes (p, q) | no n ↦ no (λ t. n (t .1)) ]
   | no n ↦ no (λ t. n (t .0))
 ]
-
-some-same : (u v : ℕ) → _≡_ {A = Option ℕ} (Some u) (Some v) → u ≡ v
-some-same u v e = ap (λ o. valueOr o 0) e
-
-some-none : (v : ℕ) → _≡_ {A = Option ℕ} (Some v) None → ⊥
-some-none v e = subst (λ r. T (isSome r)) e tt
 
 module _ (b c : Boundary) (x y : ℕ) (s : Sound b) (a : Asked b x y) (d : Left b c x y) where
   abbrev lx : ℕ

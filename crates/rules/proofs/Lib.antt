@@ -27,3 +27,4 @@ pub mod Kef
 pub mod Examples
 pub mod Broken
 pub mod Undo
+pub mod Kemr

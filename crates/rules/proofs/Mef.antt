@@ -32,6 +32,7 @@ use Rattle.rules.proofs.Halves.{mate-of-even, mate-of-odd, new-edge, new-even,
 use Rattle.rules.proofs.Views.{paired, loop-rings, vertex-rings, loop-rings-by, vertex-rings-by, continues-by, next-used-by}
 use Rattle.rules.proofs.Runs.{Met, loop-meets, in-from-on, on-from-in}
 use Rattle.rules.proofs.Owned.{count-owned, last-step}
+use Rattle.rules.proofs.Erase.{some-none}
 
 -- what an accepted edit says
 record Asked (b : Boundary) (h j k f l : ℕ) : Type 0 where
@@ -232,12 +233,9 @@ module _ (b c : Boundary) (h j k x y f l : ℕ) (s : Sound b) (a : Asked b h j k
   lone-same : (i : ℕ) → i ≢ l → lone c i ≡ lone b i
   lone-same i ne = ap lone-of (d .old-loop i ne)
 
-  some-none : (v : ℕ) → _≡_ {A = Option ℕ} None (Some v) → ⊥
-  some-none v e = subst (λ r. T (isSome r)) (sym e) tt
-
   lone-was : (i v : ℕ) → lone c i ≡ Some v → (i ≢ l) × (lone b i ≡ Some v)
   lone-was i v e = elim (ℕ-discrete i l) [
-    | yes q ↦ absurd (some-none v (sym lone-l ∙ ap (lone c) (sym q) ∙ e))
+    | yes q ↦ absurd (some-none v (sym e ∙ ap (lone c) q ∙ lone-l))
     | no ne ↦ (ne, sym (lone-same i ne) ∙ e)
   ]
 
