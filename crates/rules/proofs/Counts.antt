@@ -12,6 +12,7 @@ use Rattle.std.specs.Options.{isSome, mapped}
 use Rattle.std.specs.shelf.Lists.{countBy, sumBy}
 use Rattle.std.specs.declared.option.Option.{Option}
 use Rattle.std.specs.declared.option.Option.the-variants.{None, Some}
+use Rattle.std.proofs.shelf.Lists.{set-past}
 use Rattle.std.proofs.shelf.Sums.{sumBy-cons, sumBy-set, getD-le-sumBy, countBy-le-length}
 use Rattle.std.proofs.shelf.Tests.{eq-eqb, eqb-true}
 use Rattle.boundary.specs.declared.Boundary.{Boundary}
@@ -43,6 +44,13 @@ module _ {X : Type 0} where
   count-clear t k u =
       let old : tally (isSome (row t k)) ≡ 1 = ap (λ r. tally (isSome r)) (has-row t k u .1) in
       omega (arith, change isSome t k None (has-below t k u), old)
+
+  -- a row that is put where it was used, or cleared where it was not, leaves the count
+  pub count-put-alike : (t : List (Option X)) (k : ℕ) (r : Option X) → isSome r ≡ isSome (row t k) → count (set t k r) ≡ count t
+  count-put-alike t k r e = elim (decLt k (length t)) [
+    | yes lt ↦ let same : tally (isSome r) ≡ tally (isSome (row t k)) = ap tally e in omega (arith, change isSome t k r lt, same)
+    | no past ↦ ap count (set-past t k r (omega arith))
+  ]
 
   pub count-map : (g : X → X) (t : List (Option X)) → count (map (mapped g) t) ≡ count t
   count-map g [] = refl

@@ -15,7 +15,7 @@ use Rattle.boundary.specs.declared.Edge.{Edge}
 use Rattle.boundary.specs.declared.Loop.{Loop}
 use Rattle.boundary.specs.declared.Boundary.{Boundary}
 use Rattle.boundary.specs.Tables.{row, count, half-in, start, next, owner, mate, lone-of, face-of}
-use Rattle.boundary.specs.Changes.{with-loops, emptied, led-edge, led-in}
+use Rattle.boundary.specs.Changes.{with-loops, emptied}
 use Rattle.boundary.specs.Operators.{past}
 use Rattle.rings.specs.Rings.{walk, Rings, Reaches}
 use Rattle.rings.specs.Changes.{Swapped}
@@ -24,10 +24,11 @@ use Rattle.rings.proofs.Facts.{injective}
 use Rattle.rings.proofs.Put.{swapped-by-put, skip-hit, skip-miss}
 use Rattle.rings.proofs.Euler.{vertices-left}
 use Rattle.rules.specs.Rules.{Has, Used, turn, Sound}
-use Rattle.rules.proofs.Rows.{has-below, has-put-other-in, has-put-again, row-put-same, row-put-other, length-put, has-map-in, has-map-out, length-mapped}
-use Rattle.rules.proofs.Counts.{count-put-used, count-clear, count-map}
-use Rattle.rules.proofs.Halves.{mate-apart, other-edge, half-put-other, clear-mates-in, clear-mates-out, led-start, led-owner, led-hit, led-miss}
+use Rattle.rules.proofs.Rows.{has-below, has-put-other-in, has-put-again, row-put-same, row-put-other, length-put}
+use Rattle.rules.proofs.Counts.{count-put-used, count-clear}
+use Rattle.rules.proofs.Halves.{mate-apart, other-edge, half-put-other, clear-mates-in, clear-mates-out}
 use Rattle.rules.proofs.Views.{paired, loop-rings, vertex-rings}
+use Rattle.rules.proofs.Led.{Alike, led-twice, twice-has-in, twice-has-out, twice-length, twice-count, twice-start, twice-owner, twice-first, twice-second, twice-other}
 
 -- a lone vertex is one, and the one it is
 pub some-same : (u v : ℕ) → _≡_ {A = Option ℕ} (Some u) (Some v) → u ≡ v
@@ -160,73 +161,44 @@ module _ (b c : Boundary) (x y : ℕ) (s : Sound b) (d : Gone b c x y) where
   pub after-y : start b (next b y) ≡ start b x
   after-y = s .continues .goes-on y (d .y-used) ∙ ap (start b) (d .mate-y)
 
--- the table es₁ has the edges of es, with their starts and steps
-pub record Alike (es es₁ : List (Option Edge)) : Type 0 where
-  pub has-in : (m : ℕ) → Has es m → Has es₁ m
-  pub has-out : (m : ℕ) → Has es₁ m → Has es m
-  pub starts : (i : ℕ) → half-in es₁ i .start ≡ half-in es i .start
-  pub nexts : (i : ℕ) → half-in es₁ i .next ≡ half-in es i .next
-  pub lengths : length es₁ ≡ length es
-  pub counts : count es₁ ≡ count es
-
--- what led to m leads to u, then what led to n leads to v, and the edge of x is cleared
+-- what led to m leads to p, then what led to n leads to q, and the edge of x is cleared
 abbrev pub erased-in : List (Option Edge) → ℕ → ℕ → ℕ → ℕ → ℕ → List (Option Edge)
-erased-in es₁ m u n v x = set (led-in (led-in es₁ m u) n v) (x / 2) None
+erased-in es₁ m p n q x = set (led-twice es₁ m p n q) (x / 2) None
 
 module _ (es es₁ : List (Option Edge)) (m p n q x : ℕ) (a : Alike es es₁) where
-  abbrev es₂ : List (Option Edge)
-  es₂ = led-in es₁ m p
-
-  abbrev es₃ : List (Option Edge)
-  es₃ = led-in es₂ n q
-
-  has₃ : (k : ℕ) → Has es k → Has es₃ k
-  has₃ k w = has-map-in (led-edge n q) es₂ k (has-map-in (led-edge m p) es₁ k (a .has-in k w))
+  abbrev led-es : List (Option Edge)
+  led-es = led-twice es₁ m p n q
 
   pub erased-in-use : (i : ℕ) → Has (erased-in es₁ m p n q x) (i / 2) → Has es (i / 2) × (i ≢ x) × (i ≢ mate x)
-  erased-in-use i w =
-      let o = clear-mates-out es₃ x i w in
-      (a .has-out (i / 2) (has-map-out (led-edge m p) es₁ (i / 2) (has-map-out (led-edge n q) es₂ (i / 2) (o .0))), o .1, o .2)
+  erased-in-use i w = let o = clear-mates-out led-es x i w in (twice-has-out es es₁ m p n q a (i / 2) (o .0), o .1, o .2)
 
   pub erased-length : length (erased-in es₁ m p n q x) ≡ length es
-  erased-length = length-put es₃ (x / 2) None ∙ length-mapped (led-edge n q) es₂ ∙ length-mapped (led-edge m p) es₁ ∙ a .lengths
+  erased-length = length-put led-es (x / 2) None ∙ twice-length es es₁ m p n q a
 
   pub erased-count : Has es (x / 2) → count (erased-in es₁ m p n q x) + 1 ≡ count es
-  erased-count w = count-clear es₃ (x / 2) (has₃ (x / 2) w) ∙ count-map (led-edge n q) es₂ ∙ count-map (led-edge m p) es₁ ∙ a .counts
+  erased-count w = count-clear led-es (x / 2) (twice-has-in es es₁ m p n q a (x / 2) w) ∙ twice-count es es₁ m p n q a
 
   module _ (i : ℕ) (w : Has es (i / 2)) (nx : i ≢ x) (ny : i ≢ mate x) where
     pub erased-still : Has (erased-in es₁ m p n q x) (i / 2)
-    erased-still = clear-mates-in es₃ x i nx ny (has₃ (i / 2) w)
+    erased-still = clear-mates-in led-es x i nx ny (twice-has-in es es₁ m p n q a (i / 2) w)
 
-    same₃ : half-in (erased-in es₁ m p n q x) i ≡ half-in es₃ i
-    same₃ = half-put-other es₃ (x / 2) i None (other-edge i x nx ny)
+    same-half : half-in (erased-in es₁ m p n q x) i ≡ half-in led-es i
+    same-half = half-put-other led-es (x / 2) i None (other-edge i x nx ny)
 
     pub erased-start : half-in (erased-in es₁ m p n q x) i .start ≡ half-in es i .start
-    erased-start = ap (λ r. r .start) same₃ ∙ led-start es₂ n q i ∙ led-start es₁ m p i ∙ a .starts i
+    erased-start = ap (λ r. r .start) same-half ∙ twice-start es es₁ m p n q a i
 
     pub erased-owner : half-in (erased-in es₁ m p n q x) i .owner ≡ half-in es₁ i .owner
-    erased-owner = ap (λ r. r .owner) same₃ ∙ led-owner es₂ n q i ∙ led-owner es₁ m p i
+    erased-owner = ap (λ r. r .owner) same-half ∙ twice-owner es es₁ m p n q a i
 
-    in₁ : Has es₁ (i / 2)
-    in₁ = a .has-in (i / 2) w
-
-    in₂ : Has es₂ (i / 2)
-    in₂ = has-map-in (led-edge m p) es₁ (i / 2) in₁
-
-    -- what led to m leads to p, which is not n
     pub erased-first : p ≢ n → half-in es i .next ≡ m → half-in (erased-in es₁ m p n q x) i .next ≡ p
-    erased-first ne e =
-        let at₂ : half-in es₂ i .next ≡ p = led-hit es₁ m p i in₁ (a .nexts i ∙ e) in
-        ap (λ r. r .next) same₃ ∙ led-miss es₂ n q i in₂ (λ t. ne (sym at₂ ∙ t)) ∙ at₂
+    erased-first ne e = ap (λ r. r .next) same-half ∙ twice-first es es₁ m p n q a i w ne e
 
     pub erased-second : n ≢ m → half-in es i .next ≡ n → half-in (erased-in es₁ m p n q x) i .next ≡ q
-    erased-second ne e =
-        ap (λ r. r .next) same₃ ∙ led-hit es₂ n q i in₂ (led-miss es₁ m p i in₁ (λ t. ne (sym e ∙ sym (a .nexts i) ∙ t)) ∙ a .nexts i ∙ e)
+    erased-second ne e = ap (λ r. r .next) same-half ∙ twice-second es es₁ m p n q a i w ne e
 
     pub erased-other : half-in es i .next ≢ m → half-in es i .next ≢ n → half-in (erased-in es₁ m p n q x) i .next ≡ half-in es i .next
-    erased-other nm nn =
-        let at₂ : half-in es₂ i .next ≡ half-in es i .next = led-miss es₁ m p i in₁ (λ t. nm (sym (a .nexts i) ∙ t)) ∙ a .nexts i in
-        ap (λ r. r .next) same₃ ∙ led-miss es₂ n q i in₂ (λ t. nn (sym at₂ ∙ t)) ∙ at₂
+    erased-other nm nn = ap (λ r. r .next) same-half ∙ twice-other es es₁ m p n q a i w nm nn
 
 -- where the ring of l was emptied, v is lone on it: the loops alone change
 abbrev pub lone-put : Bool → List (Option Loop) → ℕ → ℕ → List (Option Loop)

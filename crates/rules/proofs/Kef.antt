@@ -16,7 +16,7 @@ use Rattle.boundary.specs.declared.Loop.{Loop}
 use Rattle.boundary.specs.declared.Boundary.{Boundary}
 use Rattle.boundary.specs.declared.Refusal.the-variants.{Unused, Condition}
 use Rattle.boundary.specs.Tables.{row, count, half-used, start, next, owner, mate, lone, lone-of, face-of, shell-of, outer-of, loop-face, face-shell, loop-shell, loops-in}
-use Rattle.boundary.specs.Changes.{clear-edge, clear-loop, clear-face, led, joined, joined-edge, joined-in}
+use Rattle.boundary.specs.Changes.{clear-edge, clear-loop, clear-face, led, joined, joined-in}
 use Rattle.boundary.specs.Operators.{past, kef}
 use Rattle.boundary.specs.Refusals.{kef-refusal}
 use Rattle.rings.specs.Rings.{Rings}
@@ -26,12 +26,13 @@ use Rattle.rings.proofs.Facts.{injective}
 use Rattle.rings.proofs.Put.{swapped-by-put}
 use Rattle.rings.proofs.Euler.{loops-joined}
 use Rattle.rules.specs.Rules.{Has, Used, turn, Sizes, Named, LoneVertices, Outer, OneShell, Balanced, Sound}
-use Rattle.rules.proofs.Rows.{true-T, and-true, not-eqb, unless-none, row-put-other, length-put, has-clear-in, has-clear-out, has-map-in, has-map-out, length-mapped, lone-has}
-use Rattle.rules.proofs.Counts.{count-clear, count-map}
+use Rattle.rules.proofs.Rows.{true-T, and-true, not-eqb, unless-none, row-put-other, length-put, has-clear-in, has-clear-out, lone-has}
+use Rattle.rules.proofs.Counts.{count-clear}
 use Rattle.rules.proofs.Fields.{one-loop-in}
-use Rattle.rules.proofs.Halves.{mate-mate, mate-apart, used-mate, joined-start, joined-next, joined-owner}
+use Rattle.rules.proofs.Halves.{mate-mate, mate-apart, used-mate, joined-owner}
 use Rattle.rules.proofs.Views.{loop-rings, vertex-rings, loop-rings-by, vertex-rings-by, continues-by, next-used-by}
-use Rattle.rules.proofs.Erase.{some-same, some-none, alone-in, pair-in, past-on, past-over, Gone, halves-apart, erased, turns-left, after-x, after-y, Alike, erased-in, erased-in-use, erased-length, erased-count, erased-still, erased-start, erased-owner, erased-first, erased-second, erased-other, lone-put, emptied-is, lone-put-has-in, lone-put-has-out, lone-put-other, lone-put-face, lone-put-true, lone-put-false, lone-put-length, lone-put-count}
+use Rattle.rules.proofs.Led.{Alike, joined-alike}
+use Rattle.rules.proofs.Erase.{some-same, some-none, alone-in, pair-in, past-on, past-over, Gone, halves-apart, erased, turns-left, after-x, after-y, erased-in, erased-in-use, erased-length, erased-count, erased-still, erased-start, erased-owner, erased-first, erased-second, erased-other, lone-put, emptied-is, lone-put-has-in, lone-put-has-out, lone-put-other, lone-put-face, lone-put-true, lone-put-false, lone-put-length, lone-put-count}
 
 -- what an accepted edit says of the half-edge x and its mate y
 record Asked (b : Boundary) (x y : ℕ) : Type 0 where
@@ -428,14 +429,7 @@ module _ (b : Boundary) (h : ℕ) (s : Sound b) (a : Asked b h (mate h)) where
   es₁ = joined-in (b .edges) (owner b h) (owner b y)
 
   alike : Alike (b .edges) es₁
-  alike = record {
-    has-in = has-map-in (joined-edge (owner b h) (owner b y)) (b .edges);
-    has-out = has-map-out (joined-edge (owner b h) (owner b y)) (b .edges);
-    starts = joined-start (b .edges) (owner b h) (owner b y);
-    nexts = joined-next (b .edges) (owner b h) (owner b y);
-    lengths = length-mapped (joined-edge (owner b h) (owner b y)) (b .edges);
-    counts = count-map (joined-edge (owner b h) (owner b y)) (b .edges);
-  }
+  alike = joined-alike (b .edges) (owner b h) (owner b y)
 
   mate-used-too : Used b y
   mate-used-too = used-mate b h (a .x-used)

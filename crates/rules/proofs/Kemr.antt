@@ -31,11 +31,11 @@ use Rattle.rings.proofs.Euler.{loops-split}
 use Rattle.rules.specs.Rules.{Has, Used, turn, Sizes, Named, LoneVertices, Outer, OneShell, Balanced, Sound}
 use Rattle.rules.proofs.Rows.{true-T, unless-none, free-not-has, row-put-same, row-put-other, length-put, has-put-same, has-put-other-in, has-put-cases, lone-has}
 use Rattle.rules.proofs.Counts.{count-put-free}
-use Rattle.rules.proofs.Halves.{mate-mate, mate-apart, used-mate, owned-has-in, owned-has-out, owned-length, owned-start, owned-next, owned-hit, owned-miss}
+use Rattle.rules.proofs.Halves.{mate-mate, mate-apart, used-mate, owned-hit, owned-miss}
 use Rattle.rules.proofs.Views.{loop-rings, vertex-rings, loop-rings-by, vertex-rings-by, continues-by, next-used-by}
 use Rattle.rules.proofs.Runs.{Met, loop-meets, in-from-on, on-from-in}
-use Rattle.rules.proofs.Owned.{count-owned}
-use Rattle.rules.proofs.Erase.{some-same, some-none, alone-in, past-on, Gone, halves-apart, erased, turns-left, after-x, after-y, Alike, erased-in, erased-in-use, erased-length, erased-count, erased-still, erased-start, erased-owner, erased-first, erased-second, erased-other, lone-put, emptied-is, lone-put-has-in, lone-put-has-out, lone-put-other, lone-put-face, lone-put-true, lone-put-false, lone-put-length, lone-put-count}
+use Rattle.rules.proofs.Led.{Alike, owned-alike}
+use Rattle.rules.proofs.Erase.{some-same, some-none, alone-in, past-on, Gone, halves-apart, erased, turns-left, after-x, after-y, erased-in, erased-in-use, erased-length, erased-count, erased-still, erased-start, erased-owner, erased-first, erased-second, erased-other, lone-put, emptied-is, lone-put-has-in, lone-put-has-out, lone-put-other, lone-put-face, lone-put-true, lone-put-false, lone-put-length, lone-put-count}
 
 -- what an accepted edit says of the half-edge x and its mate y
 record Asked (b : Boundary) (x y l : ℕ) : Type 0 where
@@ -495,14 +495,7 @@ module _ (b : Boundary) (h l : ℕ) (s : Sound b) (a : Asked b h (mate h) l) (ll
   es₁ = run-edges b h y l
 
   alike : Alike (b .edges) es₁
-  alike = record {
-    has-in = owned-has-in (b .edges) (run (next b) 384 (next b h) y) l;
-    has-out = owned-has-out (b .edges) (run (next b) 384 (next b h) y) l;
-    starts = owned-start (b .edges) (run (next b) 384 (next b h) y) l;
-    nexts = owned-next (b .edges) (run (next b) 384 (next b h) y) l;
-    lengths = owned-length (b .edges) (run (next b) 384 (next b h) y) l;
-    counts = count-owned (b .edges) (run (next b) 384 (next b h) y) l;
-  }
+  alike = owned-alike (b .edges) (run (next b) 384 (next b h) y) l
 
   mate-used-too : Used b y
   mate-used-too = used-mate b h (a .x-used)

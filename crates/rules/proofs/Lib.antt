@@ -22,6 +22,7 @@ pub mod Mef
 pub mod Histories
 pub mod Enter
 pub mod Mekr
+pub mod Led
 pub mod Erase
 pub mod Kef
 pub mod Examples

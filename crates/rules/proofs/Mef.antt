@@ -17,7 +17,7 @@ use Rattle.boundary.specs.declared.Edge.{Edge}
 use Rattle.boundary.specs.declared.Boundary.{Boundary}
 use Rattle.boundary.specs.declared.Refusal.the-variants.{Unused, Taken, Condition}
 use Rattle.boundary.specs.Tables.{row, count, half, half-in, half-used, start, next, owner, mate, lone, lone-of, face-of, shell-of, outer-of, loop-face, face-shell, loop-shell, run}
-use Rattle.boundary.specs.Changes.{led-edge, led-in, owned-in}
+use Rattle.boundary.specs.Changes.{owned-in}
 use Rattle.boundary.specs.Operators.{half-edge, edge, mef}
 use Rattle.boundary.specs.Refusals.{free, mef-refusal}
 use Rattle.rings.specs.Rings.{Rings, First, OnRun}
@@ -26,12 +26,12 @@ use Rattle.rings.proofs.Facts.{walk-label, before, injective}
 use Rattle.rings.proofs.Walks.{on-run?}
 use Rattle.rings.proofs.Euler.{loops-stay, vertices-stay}
 use Rattle.rules.specs.Rules.{Has, Used, turn, Sizes, Named, LoneVertices, Outer, OneShell, Balanced, Sound}
-use Rattle.rules.proofs.Rows.{true-T, and-true, not-eqb, unless-none, free-not-has, row-has, row-put-same, row-put-other, length-put, has-map-in, has-map-out, length-mapped, lone-has}
-use Rattle.rules.proofs.Counts.{count-put-free, count-map}
-use Rattle.rules.proofs.Halves.{mate-of-even, mate-of-odd, new-edge, new-even, put-even, put-odd, half-put-other, put-used-even, put-used-odd, put-used-in, put-used-cases, led-start, led-owner, led-hit, led-miss, owned-has-in, owned-has-out, owned-length, owned-start, owned-next, owned-hit, owned-miss, used-mate}
+use Rattle.rules.proofs.Rows.{true-T, and-true, not-eqb, unless-none, free-not-has, row-has, row-put-same, row-put-other, length-put, lone-has}
+use Rattle.rules.proofs.Counts.{count-put-free}
+use Rattle.rules.proofs.Halves.{mate-of-even, mate-of-odd, new-edge, new-even, put-even, put-odd, half-put-other, put-used-even, put-used-odd, put-used-in, put-used-cases, owned-hit, owned-miss, used-mate}
 use Rattle.rules.proofs.Views.{paired, loop-rings, vertex-rings, loop-rings-by, vertex-rings-by, continues-by, next-used-by}
-use Rattle.rules.proofs.Runs.{Met, loop-meets, in-from-on, on-from-in}
-use Rattle.rules.proofs.Owned.{count-owned, last-step}
+use Rattle.rules.proofs.Runs.{Met, loop-meets, in-from-on, on-from-in, last-step}
+use Rattle.rules.proofs.Led.{Alike, owned-alike, led-twice, twice-has-in, twice-has-out, twice-length, twice-count, twice-start, twice-owner, twice-first, twice-second, twice-other}
 use Rattle.rules.proofs.Erase.{some-none}
 
 -- what an accepted edit says
@@ -298,7 +298,7 @@ module _ (b c : Boundary) (h j k x y f l : ℕ) (s : Sound b) (a : Asked b h j k
     ];
   }
 
-  -- a loop that had half-edges has some still: 2k on the old loop of h, and any other loop all of its own
+  -- a loop that had half-edges has some still: x on the loop of h, and any other loop all of its own
   has-half : (i : ℕ) → i ≢ l → ((z : ℕ) × Used b z × (owner b z ≡ i)) → (z : ℕ) × Used c z × (owner c z ≡ i)
   has-half i ne o = elim (ℕ-discrete i (owner b h)) [
     | yes e ↦ (x, d .x-in-use, ap (λ r. r .owner) (d .x-half) ∙ sym e)
@@ -382,11 +382,11 @@ module _ (b : Boundary) (h j k f l : ℕ) (z : Sizes b) (a : Asked b h j k f l) 
   abbrev es₁ : List (Option Edge)
   es₁ = owned-in es (run (next b) 384 h j) l
 
-  abbrev es₂ : List (Option Edge)
-  es₂ = led-in es₁ h (2 * k)
-
   abbrev es₃ : List (Option Edge)
-  es₃ = led-in es₂ j (2 * k + 1)
+  es₃ = led-twice es₁ h (2 * k) j (2 * k + 1)
+
+  alike : Alike es es₁
+  alike = owned-alike es (run (next b) 384 h j) l
 
   abbrev drawn-edge : Edge
   drawn-edge = edge (half-edge (start b h) j (owner b h)) (half-edge (start b j) h l)
@@ -394,23 +394,11 @@ module _ (b : Boundary) (h j k f l : ℕ) (z : Sizes b) (a : Asked b h j k f l) 
   abbrev made : Boundary
   made = mef b h j k f l
 
-  in₁ : (i : ℕ) → Used b i → Has es₁ (i / 2)
-  in₁ i u = owned-has-in es (run (next b) 384 h j) l (i / 2) u
-
-  in₂ : (i : ℕ) → Used b i → Has es₂ (i / 2)
-  in₂ i u = has-map-in (led-edge h (2 * k)) es₁ (i / 2) (in₁ i u)
-
-  in₃ : (i : ℕ) → Used b i → Has es₃ (i / 2)
-  in₃ i u = has-map-in (led-edge j (2 * k + 1)) es₂ (i / 2) (in₂ i u)
+  length₃ : length es₃ ≡ length es
+  length₃ = twice-length es es₁ h (2 * k) j (2 * k + 1) alike
 
   out₃ : (i : ℕ) → Has es₃ i → Has es i
-  out₃ i u = owned-has-out es (run (next b) 384 h j) l i (has-map-out (led-edge h (2 * k)) es₁ i (has-map-out (led-edge j (2 * k + 1)) es₂ i u))
-
-  length₃ : length es₃ ≡ length es
-  length₃ = length-mapped (led-edge j (2 * k + 1)) es₂ ∙ length-mapped (led-edge h (2 * k)) es₁ ∙ owned-length es (run (next b) 384 h j) l
-
-  count₃ : count es₃ ≡ count es
-  count₃ = count-map (led-edge j (2 * k + 1)) es₂ ∙ count-map (led-edge h (2 * k)) es₁ ∙ count-owned es (run (next b) 384 h j) l
+  out₃ = twice-has-out es es₁ h (2 * k) j (2 * k + 1) alike
 
   room : k < length es₃
   room = omega (arith, length₃, z .edges)
@@ -420,25 +408,17 @@ module _ (b : Boundary) (h j k f l : ℕ) (z : Sizes b) (a : Asked b h j k f l) 
   old-half i u = half-put-other es₃ k i (Some drawn-edge) (new-edge es k i (a .edge-free) u)
 
   old-owner : (i : ℕ) → Used b i → owner made i ≡ half-in es₁ i .owner
-  old-owner i u = ap (λ r. r .owner) (old-half i u) ∙ led-owner es₂ j (2 * k + 1) i ∙ led-owner es₁ h (2 * k) i
-
-  next₁ : (i : ℕ) → half-in es₁ i .next ≡ next b i
-  next₁ i = owned-next es (run (next b) 384 h j) l i
+  old-owner i u = ap (λ r. r .owner) (old-half i u) ∙ twice-owner es es₁ h (2 * k) j (2 * k + 1) alike i
 
   leads-h : (i : ℕ) → Used b i → next b i ≡ h → next made i ≡ 2 * k
   leads-h i u e =
-      let at₂ : half-in es₂ i .next ≡ 2 * k = led-hit es₁ h (2 * k) i (in₁ i u) (next₁ i ∙ e) in
-      ap (λ r. r .next) (old-half i u) ∙ led-miss es₂ j (2 * k + 1) i (in₂ i u) (λ q. new-even es k j (a .edge-free) (a .j-used) (sym q ∙ at₂)) ∙ at₂
+      ap (λ r. r .next) (old-half i u) ∙ twice-first es es₁ h (2 * k) j (2 * k + 1) alike i u (λ q. new-even es k j (a .edge-free) (a .j-used) (sym q)) e
 
   leads-j : (i : ℕ) → Used b i → next b i ≡ j → next made i ≡ 2 * k + 1
-  leads-j i u e =
-      let at₂ : half-in es₂ i .next ≡ j = led-miss es₁ h (2 * k) i (in₁ i u) (λ q. a .apart (sym q ∙ next₁ i ∙ e)) ∙ next₁ i ∙ e in
-      ap (λ r. r .next) (old-half i u) ∙ led-hit es₂ j (2 * k + 1) i (in₂ i u) at₂
+  leads-j i u e = ap (λ r. r .next) (old-half i u) ∙ twice-second es es₁ h (2 * k) j (2 * k + 1) alike i u (λ q. a .apart (sym q)) e
 
   leads-on : (i : ℕ) → Used b i → next b i ≢ h → next b i ≢ j → next made i ≡ next b i
-  leads-on i u nh nj =
-      let at₂ : half-in es₂ i .next ≡ next b i = led-miss es₁ h (2 * k) i (in₁ i u) (λ q. nh (sym (next₁ i) ∙ q)) ∙ next₁ i in
-      ap (λ r. r .next) (old-half i u) ∙ led-miss es₂ j (2 * k + 1) i (in₂ i u) (λ q. nj (sym at₂ ∙ q)) ∙ at₂
+  leads-on i u nh nj = ap (λ r. r .next) (old-half i u) ∙ twice-other es es₁ h (2 * k) j (2 * k + 1) alike i u nh nj
 
   uses : (i : ℕ) → Used made i → (i ≡ 2 * k) ⊎ ((i ≡ 2 * k + 1) ⊎ Used b i)
   uses i u = elim (put-used-cases es₃ k i drawn-edge u) [
@@ -454,10 +434,10 @@ module _ (b : Boundary) (h j k f l : ℕ) (z : Sizes b) (a : Asked b h j k f l) 
     in-use = uses;
     x-in-use = put-used-even es₃ k drawn-edge room;
     y-in-use = put-used-odd es₃ k drawn-edge room;
-    still-in-use = λ i u. put-used-in es₃ k i drawn-edge (in₃ i u);
+    still-in-use = λ i u. put-used-in es₃ k i drawn-edge (twice-has-in es es₁ h (2 * k) j (2 * k + 1) alike (i / 2) u);
     x-half = put-even es₃ k drawn-edge room;
     y-half = put-odd es₃ k drawn-edge room;
-    old-start = λ i u. ap (λ r. r .start) (old-half i u) ∙ led-start es₂ j (2 * k + 1) i ∙ led-start es₁ h (2 * k) i ∙ owned-start es (run (next b) 384 h j) l i;
+    old-start = λ i u. ap (λ r. r .start) (old-half i u) ∙ twice-start es es₁ h (2 * k) j (2 * k + 1) alike i;
     to-h = leads-h;
     to-j = leads-j;
     elsewhere = leads-on;
@@ -470,7 +450,7 @@ module _ (b : Boundary) (h j k f l : ℕ) (z : Sizes b) (a : Asked b h j k f l) 
     same-vertices = refl;
     same-shells = refl;
     same-handles = refl;
-    edge-count = count-put-free es₃ k drawn-edge room (λ u. a .edge-free (out₃ k u)) ∙ ap (λ n. n + 1) count₃;
+    edge-count = count-put-free es₃ k drawn-edge room (λ u. a .edge-free (out₃ k u)) ∙ ap (λ n. n + 1) (twice-count es es₁ h (2 * k) j (2 * k + 1) alike);
     loop-count = count-put-free (b .loops) l (record { face = f; lone = None }) (omega (arith, z .loops)) (a .loop-free);
     face-count = count-put-free (b .faces) f (record { shell = loop-shell b (owner b h); outer = l }) (omega (arith, z .faces)) (a .face-free);
     edge-length = length-put es₃ k (Some drawn-edge) ∙ length₃;

@@ -166,7 +166,7 @@ module _ {X : Type 0} where
   row-map g (r ∷ t) zero = refl
   row-map g (r ∷ t) (suc m) = row-map g t m
 
-  isSome-mapped : (g : X → X) (r : Option X) → isSome (mapped g r) ≡ isSome r
+  pub isSome-mapped : (g : X → X) (r : Option X) → isSome (mapped g r) ≡ isSome r
   isSome-mapped g None = refl
   isSome-mapped g (Some x) = refl
 

@@ -9,6 +9,7 @@ use Rattle.boundary.specs.declared.Boundary.{Boundary}
 use Rattle.boundary.specs.Tables.{run, next, owner}
 use Rattle.boundary.proofs.Rows.{run-on, run-ends}
 use Rattle.rings.specs.Rings.{walk, Rings, First, OnRun, run as steps-run}
+use Rattle.rings.proofs.Facts.{walk-used, injective}
 use Rattle.rings.proofs.Walks.{walk-first}
 use Rattle.rings.proofs.Round.{meets, within-bound, has-from-on, on-from-has}
 use Rattle.rules.specs.Rules.{Used, Sound}
@@ -48,3 +49,9 @@ meets-within r N small h k u v e =
 
 pub loop-meets : (b : Boundary) → Sound b → (h k : ℕ) → Used b h → Used b k → owner b h ≡ owner b k → Met (next b) 384 h k
 loop-meets b s h k u v e = meets-within (loop-rings b s) 384 (used-small b (s .sizes .edges)) h k u v e
+
+-- where a run leads to j for the first time, it leads to the element q before j one step sooner
+pub last-step : {f : ℕ → ℕ} {used : ℕ → Type 0} {lab : ℕ → ℕ} → Rings f used lab → (h j q m : ℕ) → used h → used q → f q ≡ j → h ≢ j → First f h j m → (n : ℕ) × (m ≡ suc n) × First f h q n
+last-step r h j q zero u v e ne w = absurd (ne (w .arrives))
+last-step {f} r h j q (suc n) u v e ne w =
+    (n, refl, record { arrives = injective r (walk f n h) q (walk-used r n h u) v (w .arrives ∙ sym e); not-before = λ i lt p. w .not-before (suc i) (omega arith) (ap f p ∙ e) })
