@@ -27,6 +27,7 @@ use Rattle.rules.proofs.Mev.{mev-keeps}
 use Rattle.rules.proofs.Kev.{kev-keeps}
 use Rattle.rules.proofs.Mef.{mef-keeps}
 use Rattle.rules.proofs.Kef.{kef-keeps}
+use Rattle.rules.proofs.Kemr.{kemr-keeps}
 use Rattle.rules.proofs.Mekr.{mekr-keeps}
 use Rattle.rules.proofs.Kfmrh.{kfmrh-keeps}
 
@@ -56,7 +57,9 @@ within-keeps b (Mef h j k f l) s r q =
     let w = and-parts (is-face f) _ (z .1) in
     mef-keeps b _ _ _ _ _ s (small 384 h (omega arith) (x .0)) (small 384 j (omega arith) (y .0)) (small 192 k (omega arith) (z .0)) (small 96 f (omega arith) (w .0)) (small 96 l (omega arith) (w .1)) q
 within-keeps b (Kef h) s r q = kef-keeps b _ s (small 384 h (omega arith) r) q
-within-keeps b (Kemr h l) s r q = ?
+within-keeps b (Kemr h l) s r q =
+    let x = and-parts (is-half h) _ r in
+    kemr-keeps b _ _ s (small 384 h (omega arith) (x .0)) (small 96 l (omega arith) (x .1)) q
 within-keeps b (Mekr a c k) s r q =
     let x = and-parts (is-place a) _ r in
     let y = and-parts (is-place c) _ (x .1) in

@@ -17,7 +17,6 @@ pub mod MevLone
 pub mod Mev
 pub mod KevHalves
 pub mod Kev
-pub mod Owned
 pub mod Mef
 pub mod Histories
 pub mod Enter
