@@ -6,6 +6,7 @@ pub mod Halves
 pub mod Views
 pub mod Runs
 pub mod Edges
+pub mod RingLists
 pub mod Move
 pub mod Mvfs
 pub mod Kvfs
