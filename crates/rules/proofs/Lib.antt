@@ -7,6 +7,7 @@ pub mod Views
 pub mod Runs
 pub mod Edges
 pub mod RingLists
+pub mod RingsExist
 pub mod Move
 pub mod Mvfs
 pub mod Kvfs
