@@ -17,6 +17,7 @@ pub mod Grown
 pub mod MevBefore
 pub mod MevLone
 pub mod Mev
+pub mod MevLaw
 pub mod KevHalves
 pub mod Kev
 pub mod Mef

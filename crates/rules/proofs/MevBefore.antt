@@ -34,7 +34,7 @@ module _ (b : Boundary) (h k v : ℕ) (s : Sound b) (h-used : Used b h) (k-small
   abbrev led-es : List (Option Edge)
   led-es = led-in (b .edges) h (2 * k)
 
-  abbrev es : List (Option Edge)
+  abbrev pub es : List (Option Edge)
   es = before-edges b h k v
 
   k-below : k < length led-es
@@ -53,16 +53,16 @@ module _ (b : Boundary) (h k v : ℕ) (s : Sound b) (h-used : Used b h) (k-small
   old-half : (j : ℕ) → Used b j → half-in es j ≡ half-in led-es j
   old-half j u = half-put-other led-es k j _ (new-edge (b .edges) k j k-free u)
 
-  next-even : half-in es (2 * k) .next ≡ 2 * k + 1
+  pub next-even : half-in es (2 * k) .next ≡ 2 * k + 1
   next-even = ap (λ x. x .next) (put-even led-es k (before-edge b h k v) k-below)
 
   pub next-odd : half-in es (2 * k + 1) .next ≡ h
   next-odd = ap (λ x. x .next) (put-odd led-es k (before-edge b h k v) k-below)
 
-  next-hit : (j : ℕ) → Used b j → next b j ≡ h → half-in es j .next ≡ 2 * k
+  pub next-hit : (j : ℕ) → Used b j → next b j ≡ h → half-in es j .next ≡ 2 * k
   next-hit j u e = ap (λ x. x .next) (old-half j u) ∙ led-hit (b .edges) h (2 * k) j u e
 
-  next-miss : (j : ℕ) → Used b j → next b j ≢ h → half-in es j .next ≡ next b j
+  pub next-miss : (j : ℕ) → Used b j → next b j ≢ h → half-in es j .next ≡ next b j
   next-miss j u ne = ap (λ x. x .next) (old-half j u) ∙ led-miss (b .edges) h (2 * k) j u ne
 
   pub new-edge-is : NewEdge b es k (start b h) v (owner b h)

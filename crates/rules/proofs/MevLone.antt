@@ -37,10 +37,10 @@ abbrev pub bare-loops : Boundary → ℕ → List (Option Loop)
 bare-loops b l = set (b .loops) l (Some (bare-loop b l))
 
 module _ (b : Boundary) (l k v w : ℕ) (s : Sound b) (w-lone : lone b l ≡ Some w) (k-small : k < 192) (k-free : Has (b .edges) k → ⊥) where
-  abbrev es : List (Option Edge)
+  abbrev pub es : List (Option Edge)
   es = ring-edges b l k w v
 
-  abbrev ls : List (Option Loop)
+  abbrev pub ls : List (Option Loop)
   ls = bare-loops b l
 
   k-below : k < length (b .edges)
@@ -56,13 +56,13 @@ module _ (b : Boundary) (l k v w : ℕ) (s : Sound b) (w-lone : lone b l ≡ Som
   old-half : (j : ℕ) → Used b j → half-in es j ≡ half-in (b .edges) j
   old-half j u = half-put-other (b .edges) k j _ (new-edge (b .edges) k j k-free u)
 
-  next-even : half-in es (2 * k) .next ≡ 2 * k + 1
+  pub next-even : half-in es (2 * k) .next ≡ 2 * k + 1
   next-even = ap (λ x. x .next) (put-even (b .edges) k (ring-edge l k w v) k-below)
 
   pub next-odd : half-in es (2 * k + 1) .next ≡ 2 * k
   next-odd = ap (λ x. x .next) (put-odd (b .edges) k (ring-edge l k w v) k-below)
 
-  next-old : (j : ℕ) → Used b j → half-in es j .next ≡ next b j
+  pub next-old : (j : ℕ) → Used b j → half-in es j .next ≡ next b j
   next-old j u = ap (λ x. x .next) (old-half j u)
 
   pub new-edge-is : NewEdge b es k w v l
@@ -85,7 +85,7 @@ module _ (b : Boundary) (l k v w : ℕ) (s : Sound b) (w-lone : lone b l ≡ Som
   row-here : row ls l ≡ Some (bare-loop b l)
   row-here = row-put-same (b .loops) l (Some (bare-loop b l)) (has-below (b .loops) l l-used)
 
-  row-other : (m : ℕ) → m ≢ l → row ls m ≡ row (b .loops) m
+  pub row-other : (m : ℕ) → m ≢ l → row ls m ≡ row (b .loops) m
   row-other m ne = row-put-other (b .loops) l m _ ne
 
   lone-gone : (m u : ℕ) → lone-of (row ls m) ≡ Some u → m ≢ l
