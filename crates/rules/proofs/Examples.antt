@@ -1,16 +1,15 @@
 -- The small solids, computed.
 use mathlib.Core.Path.{refl}
 use mathlib.Core.List.{_++_}
-use Rattle.boundary.specs.Operators.{applied, empty}
+use Rattle.boundary.specs.Operators.{applied}
 use Rattle.boundary.specs.Refusals.{refusal, refusal-within, after}
 use Rattle.boundary.specs.Tables.{run, first-part}
 use Rattle.rules.specs.Examples.{Worked, triangle, block, through-hole}
-use Rattle.rules.specs.Rules.{Sound}
-use Rattle.rules.proofs.Histories.{all-keep}
+use Rattle.rules.proofs.Histories.{stays-sound}
 
-pub worked : Sound empty → Worked
+pub worked : Worked
 unfolding applied refusal refusal-within after run first-part
-worked s = record {
+worked = record {
   triangle-counts = refl;
   triangle-rings = (refl, refl);
   equal-half-edges = refl;
@@ -24,6 +23,6 @@ worked s = record {
   block-counts = refl;
   hole-counts = refl;
   taken-down = refl;
-  triangle-sound = all-keep empty triangle s;
-  hole-sound = all-keep empty (block ++ through-hole) s;
+  triangle-sound = stays-sound triangle .sound;
+  hole-sound = stays-sound (block ++ through-hole) .sound;
 }

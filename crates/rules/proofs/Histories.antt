@@ -13,13 +13,14 @@ use Rattle.boundary.specs.declared.Edit.{Edit}
 use Rattle.boundary.specs.declared.Edit.the-variants.{Mvfs, Kvfs, Mev, Kev, Mef, Kef, Kemr, Mekr, Kfmrh, Move}
 use Rattle.boundary.specs.declared.Refusal.{Refusal}
 use Rattle.boundary.specs.Changes.{emptied}
-use Rattle.boundary.specs.Operators.{named, applied, connected, one-more, led-place}
+use Rattle.boundary.specs.Operators.{empty, named, applied, led-place}
 use Rattle.boundary.specs.Refusals.{in-range, is-shell, is-face, is-loop, is-edge, is-vertex, is-half, is-place, refusal, refusal-within, after, unchanged}
 use Rattle.boundary.specs.Tables.{face-shell, is-half-place}
 use Rattle.rules.specs.Rules.{Sound}
-use Rattle.rules.specs.Histories.{after-all, handles-of, new-handles, handles-made, unless-refused}
+use Rattle.rules.specs.Histories.{after-all, handles-of, new-handles, handles-made, unless-refused, StaysSound}
 use Rattle.rules.proofs.Accepted.{accepted, after-accepted, below-named, place-named}
 use Rattle.rules.proofs.Counts.{one-more-is}
+use Rattle.rules.proofs.Nothing.{empty-sound}
 use Rattle.rules.proofs.Move.{move-keeps}
 use Rattle.rules.proofs.Mvfs.{mvfs-keeps}
 use Rattle.rules.proofs.Kvfs.{kvfs-keeps}
@@ -126,3 +127,6 @@ all-keep b (e ∷ es) s = all-keep (after b e) es (after-keeps b e s)
 pub all-handles : (b : Boundary) (es : List Edit) → Sound b → after-all b es .handles ≡ b .handles + handles-made b es
 all-handles b [] s = no-more _ _ refl
 all-handles b (e ∷ es) s = omega (arith, all-handles (after b e) es (after-keeps b e s), after-handles b e s)
+
+pub stays-sound : (es : List Edit) → StaysSound es
+stays-sound es = record { sound = all-keep empty es empty-sound; handles = all-handles empty es empty-sound ∙ (let z : 0 + handles-made empty es ≡ handles-made empty es = omega arith in z) }

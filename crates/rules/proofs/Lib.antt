@@ -4,6 +4,7 @@ pub mod Fields
 pub mod Accepted
 pub mod Halves
 pub mod Views
+pub mod Nothing
 pub mod Runs
 pub mod Edges
 pub mod RingLists

@@ -1,10 +1,27 @@
-// The rules that a sound boundary keeps, and that the operators keep them.
-ghost use Rattle.boundary.specs.Operators.{empty};
-ghost use Rattle.rules.specs.Rules.{Sound};
+// The rules of a sound boundary, and that the operators keep them. A function here has a theorem as its contract, and is proved only where the theorem is.
+ghost use mathlib.Core.List.{List};
+ghost use Rattle.boundary.specs.declared.Edit.{Edit};
+ghost use Rattle.rules.specs.Broken.{Broken};
+ghost use Rattle.rules.specs.Examples.{Worked};
+ghost use Rattle.rules.specs.Histories.{StaysSound};
 
-// The empty boundary keeps the rules.
-pub fn empty_is_sound() -> u8
-    ensures { λ _. ⌜ Sound empty ⌝ }
+// Every list of edits leaves a sound boundary, whose handles are those that the list made.
+pub fn lists_stay_sound() -> u8
+    ensures { λ _. ⌜ ((es : List Edit) → StaysSound es) ⌝ }
+{
+    0
+}
+
+// What small solids come to, computed from the definitions.
+pub fn worked_cases() -> u8
+    ensures { λ _. ⌜ Worked ⌝ }
+{
+    0
+}
+
+// For each rule there is a table that breaks it.
+pub fn rules_can_be_broken() -> u8
+    ensures { λ _. ⌜ Broken ⌝ }
 {
     0
 }

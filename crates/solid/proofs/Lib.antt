@@ -1,3 +1,4 @@
 pub mod Searches
 pub mod Runs
 pub mod Edits
+pub mod Lists

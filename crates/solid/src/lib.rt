@@ -35,11 +35,11 @@ impl Solid {
         ensures sound { λ r. ⌜ Sound (r .boundary) ⌝ }
         ensures handles { λ r. ⌜ r .boundary .handles ≡ handles-made empty (now (edits .entry)) ⌝ }
     {
-        let mut solid = Solid::empty();
+        let mut built = Solid::empty();
         for edit in edits {
-            let _ = solid.apply(*edit);
+            let _ = built.apply(*edit);
         }
-        solid
+        built
     }
 
     // The rows, to look at.

@@ -6,4 +6,4 @@ use Rattle.rules.specs.Histories.{after-all}
 use Rattle.solid.proofs.Solid.build.Given as given
 
 abbrev pub Inv-loop-edit : given.InvT-loop-edit
-Inv-loop-edit l = after-all (l .solid .boundary) (drop (l .edit-index) (l .edits)) ≡ after-all empty (l .edits)
+Inv-loop-edit l = after-all (l .built .boundary) (drop (l .edit-index) (l .edits)) ≡ after-all empty (l .edits)

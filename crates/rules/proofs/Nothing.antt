@@ -12,11 +12,11 @@ use Rattle.boundary.specs.declared.Face.{Face}
 use Rattle.boundary.specs.declared.Shell.{Shell}
 use Rattle.boundary.specs.declared.Point.{Point}
 use Rattle.boundary.specs.declared.Boundary.{Boundary}
+use Rattle.boundary.specs.Operators.{empty}
 use Rattle.boundary.specs.Tables.{count, lone}
 use Rattle.rules.specs.Rules.{Has, Used, Sizes, Named, Continues, LoopRings, VertexRings, LoneVertices, Outer, OneShell, Balanced, Sound}
 use Rattle.rules.proofs.Rows.{has-none, lone-has}
 use Rattle.rules.proofs.Counts.{count-none}
-use Rattle.rules.proofs.empty_is_sound.Needs as need
 
 -- a boundary with no used row, of any lengths
 abbrev bare : ℕ → ℕ → ℕ → ℕ → ℕ → Boundary
@@ -101,5 +101,5 @@ bare-sound a f l e v pa pf pl pe pv = record {
   balanced = bare-balanced a f l e v;
 }
 
-pub returns : need.returns
-returns c = bare-sound 8 96 96 192 128 refl refl refl refl refl
+pub empty-sound : Sound empty
+empty-sound = bare-sound 8 96 96 192 128 refl refl refl refl refl
