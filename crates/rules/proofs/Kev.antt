@@ -237,10 +237,10 @@ module _ (b : Boundary) (h : ℕ) (s : Sound b) (h-used : Used b h) (e : next b 
   row-here : row (lone-loops b h) l ≡ Some (lone-loop b h)
   row-here = row-put-same (b .loops) l (Some (lone-loop b h)) (has-below (b .loops) l l-used)
 
-  lone-here : (m : ℕ) → m ≡ l → lone-of (row (lone-loops b h) m) ≡ Some (start b h)
+  pub lone-here : (m : ℕ) → m ≡ l → lone-of (row (lone-loops b h) m) ≡ Some (start b h)
   lone-here m q = ap (λ i. lone-of (row (lone-loops b h) i)) q ∙ ap lone-of row-here
 
-  row-other : (m : ℕ) → m ≢ l → row (lone-loops b h) m ≡ row (b .loops) m
+  pub row-other : (m : ℕ) → m ≢ l → row (lone-loops b h) m ≡ row (b .loops) m
   row-other m ne = row-put-other (b .loops) l m _ ne
 
   loops-emptied : LoopsLeft b (lone-loops b h) h
@@ -266,7 +266,7 @@ module _ (b : Boundary) (h : ℕ) (s : Sound b) (h-used : Used b h) (e : next b 
   }
 
 -- the operator, where it is told whether the ring is emptied
-abbrev kev-by : Bool → Boundary → ℕ → Boundary
+abbrev pub kev-by : Bool → Boundary → ℕ → Boundary
 kev-by x b h = clear-vertex (clear-edge (emptied x (led b h (next b (mate h))) (owner b h) (start b h)) (h / 2)) (start b (mate h))
 
 kev-by-sound : (x : Bool) (b : Boundary) (h : ℕ) → Sound b → Used b h → next b h ≡ mate h → eqb (next b (mate h)) h ≡ x → Sound (kev-by x b h)

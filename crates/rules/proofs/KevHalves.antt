@@ -55,10 +55,10 @@ module _ (b : Boundary) (h : ℕ) (s : Sound b) (h-used : Used b h) (to-mate : n
   pub left-owner : (j : ℕ) → j ≢ h → j ≢ mate h → half-in es j .owner ≡ owner b j
   left-owner j n m = ap (λ x. x .owner) (left-half j n m) ∙ led-owner (b .edges) h (next b (mate h)) j
 
-  left-hit : (j : ℕ) → Used b j → j ≢ h → j ≢ mate h → next b j ≡ h → half-in es j .next ≡ next b (mate h)
+  pub left-hit : (j : ℕ) → Used b j → j ≢ h → j ≢ mate h → next b j ≡ h → half-in es j .next ≡ next b (mate h)
   left-hit j u n m e = ap (λ x. x .next) (left-half j n m) ∙ led-hit (b .edges) h (next b (mate h)) j u e
 
-  left-miss : (j : ℕ) → Used b j → j ≢ h → j ≢ mate h → next b j ≢ h → half-in es j .next ≡ next b j
+  pub left-miss : (j : ℕ) → Used b j → j ≢ h → j ≢ mate h → next b j ≢ h → half-in es j .next ≡ next b j
   left-miss j u n m ne = ap (λ x. x .next) (left-half j n m) ∙ led-miss (b .edges) h (next b (mate h)) j u ne
 
   pub left-size : length es ≡ length (b .edges)
