@@ -1,25 +1,23 @@
 -- An edge and the vertex at its end leave their ring, or the start of the edge is lone, and the other rings stay.
 use mathlib.Core.Path.{_≡_, refl, sym, ap, subst, _∙_}
-use mathlib.Core.Logic.{_≢_, _⊎_, inl, inr}
+use mathlib.Core.Logic.{_≢_, inl, inr}
 use mathlib.Core.Bool.{Bool, true, false}
 use mathlib.Core.List.{List, [], _∷_}
 use Prim.Native.Nat.{ℕ, _<_}
 use lib.Dec.{eqb}
 use Rattle.std.specs.shelf.Lists.{Has as In}
 use Rattle.std.specs.declared.option.Option.{Option}
-use Rattle.std.specs.declared.option.Option.the-variants.{None, Some}
+use Rattle.std.specs.declared.option.Option.the-variants.{None}
 use Rattle.std.proofs.shelf.Tests.{eqb-true, eqb-false}
 use Rattle.boundary.specs.declared.Loop.{Loop}
 use Rattle.boundary.specs.declared.Boundary.{Boundary}
-use Rattle.boundary.specs.Tables.{start, next, owner, mate, lone, lone-of}
-use Rattle.boundary.specs.Operators.{kev}
+use Rattle.boundary.specs.Tables.{start, next, owner, mate, lone-of}
 use Rattle.boundary.specs.Refusals.{kev-refusal}
 use Rattle.rules.specs.Rules.{Used, Sound}
 use Rattle.rules.specs.RingLaws.{RingOf, Along, Else, KevLaw}
 use Rattle.rules.proofs.KevHalves.{left-in, left-out, left-owner, left-hit, left-miss, same-loop}
 use Rattle.rules.proofs.Kev.{shrunk, kev-by, kev-accepted, lone-here, row-other}
-use Rattle.rules.proofs.RingLists.{in-first, in-rest, in-cases, leads-led, Kept, ring-kept}
-use Rattle.rules.proofs.MevLaw.{not-that}
+use Rattle.rules.proofs.RingLists.{in-first, in-rest, in-cases, in-not-first, leads-led, Kept, ring-kept}
 
 module _ (b : Boundary) (h : ℕ) (s : Sound b) (h-used : Used b h) (to-mate : next b h ≡ mate h) where
   -- what is left of the ring of h, whatever the loops are
@@ -76,11 +74,11 @@ module _ (b : Boundary) (h : ℕ) (s : Sound b) (h-used : Used b h) (to-mate : n
 
   else-by : (t : Bool) → eqb (next b (mate h)) h ≡ t → Else b (kev-by t b h) (owner b h ∷ [])
   else-by true e = record {
-    rings = λ m hs n. ring-kept b (kev-by true b h) m hs (left-kept _ m (not-that (owner b h) m n));
-    lones = λ m n. ap lone-of (row-other b h s h-used (eqb-true (next b (mate h)) h e) m (not-that (owner b h) m n));
+    rings = λ m hs n. ring-kept b (kev-by true b h) m hs (left-kept _ m (in-not-first (owner b h) m [] n));
+    lones = λ m n. ap lone-of (row-other b h s h-used (eqb-true (next b (mate h)) h e) m (in-not-first (owner b h) m [] n));
   }
   else-by false e = record {
-    rings = λ m hs n. ring-kept b (kev-by false b h) m hs (left-kept _ m (not-that (owner b h) m n));
+    rings = λ m hs n. ring-kept b (kev-by false b h) m hs (left-kept _ m (in-not-first (owner b h) m [] n));
     lones = λ m n. refl;
   }
 

@@ -28,6 +28,7 @@ pub mod Histories
 pub mod Enter
 pub mod Mekr
 pub mod Led
+pub mod MekrLaw
 pub mod Erase
 pub mod Kef
 pub mod Examples

@@ -33,7 +33,7 @@ use Rattle.rules.proofs.Views.{loop-rings, vertex-rings, next-used-by, loop-ri
 use Rattle.rules.proofs.Enter.{none-some, some-same, EnteredTwo, enter-two-keeps}
 
 -- what led to the target leads to x; nothing leads to none
-abbrev led-to : List (Option Edge) → Option ℕ → ℕ → List (Option Edge)
+abbrev pub led-to : List (Option Edge) → Option ℕ → ℕ → List (Option Edge)
 led-to es None x = es
 led-to es (Some a) x = led-in es a x
 
@@ -66,36 +66,36 @@ led-to-miss es None x h u n = refl
 led-to-miss es (Some a) x h u n = led-miss es a x h u (λ e. n (ap Some (sym e)))
 
 -- the edges but the new one, where the ends have the targets p and q and lie on the loops l and m
-abbrev table : List (Option Edge) → Option ℕ → Option ℕ → ℕ → ℕ → ℕ → List (Option Edge)
+abbrev pub table : List (Option Edge) → Option ℕ → Option ℕ → ℕ → ℕ → ℕ → List (Option Edge)
 table es p q l m k = led-to (led-to (joined-in es m l) p (2 * k)) q (2 * k + 1)
 
 -- the operator in these terms; the ends start at the vertices v and w
-abbrev linked : Boundary → Option ℕ → Option ℕ → ℕ → ℕ → ℕ → ℕ → ℕ → Boundary
+abbrev pub linked : Boundary → Option ℕ → Option ℕ → ℕ → ℕ → ℕ → ℕ → ℕ → Boundary
 linked b p q l m v w k =
     clear-loop (put-lone (put-edge (with-edges b (table (b .edges) p q l m k)) k (edge (half-edge v (valueOr q (2 * k + 1)) l) (half-edge w (valueOr p (2 * k)) l))) l None) m
 
-abbrev target : Bool → ℕ → Option ℕ
+abbrev pub target : Bool → ℕ → Option ℕ
 target c a = cond c (Some a) None
 
 -- the operator, where c and d say whether the ends are half-edges
-abbrev by-tests : Bool → Bool → Boundary → ℕ → ℕ → ℕ → ℕ → ℕ → ℕ → ℕ → Boundary
+abbrev pub by-tests : Bool → Bool → Boundary → ℕ → ℕ → ℕ → ℕ → ℕ → ℕ → ℕ → Boundary
 by-tests c d b x y l m v w k =
     let first : Boundary = cond c (led (joined b m l) x (2 * k)) (joined b m l) in
     let both : Boundary = cond d (led first y (2 * k + 1)) first in
     clear-loop (put-lone (put-edge both k (edge (half-edge v (cond d y (2 * k + 1)) l) (half-edge w (cond c x (2 * k)) l))) l None) m
 
-linked-is : (c d : Bool) (b : Boundary) (x y l m v w k : ℕ) → by-tests c d b x y l m v w k ≡ linked b (target c x) (target d y) l m v w k
+pub linked-is : (c d : Bool) (b : Boundary) (x y l m v w k : ℕ) → by-tests c d b x y l m v w k ≡ linked b (target c x) (target d y) l m v w k
 linked-is true true b x y l m v w k = refl
 linked-is true false b x y l m v w k = refl
 linked-is false true b x y l m v w k = refl
 linked-is false false b x y l m v w k = refl
 
 -- an end of the edge: a half-edge on the loop l that starts at v, or the lone vertex v of l
-record Place (b : Boundary) (t : Option ℕ) (l v : ℕ) : Type 0 where
-  loop-used : Has (b .loops) l
-  vertex-used : Has (b .vertices) v
-  at : (a : ℕ) → t ≡ Some a → Used b a × (owner b a ≡ l) × (start b a ≡ v)
-  alone : t ≡ None → lone b l ≡ Some v
+pub record Place (b : Boundary) (t : Option ℕ) (l v : ℕ) : Type 0 where
+  pub loop-used : Has (b .loops) l
+  pub vertex-used : Has (b .vertices) v
+  pub at : (a : ℕ) → t ≡ Some a → Used b a × (owner b a ≡ l) × (start b a ≡ v)
+  pub alone : t ≡ None → lone b l ≡ Some v
 
 module _ (b : Boundary) (s : Sound b) {t : Option ℕ} {l v : ℕ} (e : Place b t l v) where
   -- by the target
@@ -121,23 +121,23 @@ module _ (b : Boundary) (s : Sound b) {t : Option ℕ} {l v : ℕ} (e : Place b 
   fresh-vertex d h u = s .lone .not-both l v h (e .alone d) u
 
 -- two ends on two loops of one face, the second not its outer one
-record Linkable (b : Boundary) (p q : Option ℕ) (l m v w k : ℕ) : Type 0 where
-  from : Place b p l v
-  to : Place b q m w
-  edge-below : k < length (b .edges)
-  edge-free : Has (b .edges) k → ⊥
-  apart : l ≢ m
-  one-face : loop-face b l ≡ loop-face b m
-  not-outer : outer-of (row (b .faces) (loop-face b m)) ≢ m
+pub record Linkable (b : Boundary) (p q : Option ℕ) (l m v w k : ℕ) : Type 0 where
+  pub from : Place b p l v
+  pub to : Place b q m w
+  pub edge-below : k < length (b .edges)
+  pub edge-free : Has (b .edges) k → ⊥
+  pub apart : l ≢ m
+  pub one-face : loop-face b l ≡ loop-face b m
+  pub not-outer : outer-of (row (b .faces) (loop-face b m)) ≢ m
 
 module _ (b : Boundary) (p q : Option ℕ) (l m v w k : ℕ) (s : Sound b) (j : Linkable b p q l m v w k) where
-  abbrev new : Boundary
+  abbrev pub new : Boundary
   new = linked b p q l m v w k
 
-  abbrev X : ℕ
+  abbrev pub X : ℕ
   X = 2 * k
 
-  abbrev Y : ℕ
+  abbrev pub Y : ℕ
   Y = 2 * k + 1
 
   abbrev ends : Edge
@@ -174,16 +174,16 @@ module _ (b : Boundary) (p q : Option ℕ) (l m v w k : ℕ) (s : Sound b) (j : 
   below : k < length twice
   below = subst (λ n. k < n) (sym twice-length) (j .edge-below)
 
-  x-used : Used new X
+  pub x-used : Used new X
   x-used = put-used-even twice k ends below
 
-  y-used : Used new Y
+  pub y-used : Used new Y
   y-used = put-used-odd twice k ends below
 
-  used-in : (h : ℕ) → Used b h → Used new h
+  pub used-in : (h : ℕ) → Used b h → Used new h
   used-in h u = put-used-in twice k h ends (subst T (sym (twice-used (h / 2))) u)
 
-  used-out : (h : ℕ) → Used new h → (h ≡ X) ⊎ ((h ≡ Y) ⊎ Used b h)
+  pub used-out : (h : ℕ) → Used new h → (h ≡ X) ⊎ ((h ≡ Y) ⊎ Used b h)
   used-out h u = elim (put-used-cases twice k h ends u) [
     | inl e ↦ inl e
     | inr more ↦ elim more [ inl e ↦ inr (inl e) | inr old ↦ inr (inr (subst T (twice-used (h / 2)) old)) ]
@@ -196,16 +196,16 @@ module _ (b : Boundary) (p q : Option ℕ) (l m v w k : ℕ) (s : Sound b) (j : 
   y-start : start new Y ≡ w
   y-start = ap (λ e. e .start) (put-odd twice k ends below)
 
-  x-owner : owner new X ≡ l
+  pub x-owner : owner new X ≡ l
   x-owner = ap (λ e. e .owner) (put-even twice k ends below)
 
-  y-owner : owner new Y ≡ l
+  pub y-owner : owner new Y ≡ l
   y-owner = ap (λ e. e .owner) (put-odd twice k ends below)
 
-  x-next : next new X ≡ valueOr q Y
+  pub x-next : next new X ≡ valueOr q Y
   x-next = ap (λ e. e .next) (put-even twice k ends below)
 
-  y-next : next new Y ≡ valueOr p X
+  pub y-next : next new Y ≡ valueOr p X
   y-next = ap (λ e. e .next) (put-odd twice k ends below)
 
   there : (h : ℕ) → Used b h → half-in (new .edges) h ≡ half-in twice h
@@ -217,10 +217,10 @@ module _ (b : Boundary) (p q : Option ℕ) (l m v w k : ℕ) (s : Sound b) (j : 
   owner-there : (h : ℕ) → Used b h → owner new h ≡ half-in relabelled h .owner
   owner-there h u = ap (λ e. e .owner) (there h u) ∙ led-to-owner once q Y h ∙ led-to-owner relabelled p X h
 
-  owner-hit : (h : ℕ) → Used b h → owner b h ≡ m → owner new h ≡ l
+  pub owner-hit : (h : ℕ) → Used b h → owner b h ≡ m → owner new h ≡ l
   owner-hit h u e = owner-there h u ∙ joined-hit (b .edges) m l h u e
 
-  owner-miss : (h : ℕ) → Used b h → owner b h ≢ m → owner new h ≡ owner b h
+  pub owner-miss : (h : ℕ) → Used b h → owner b h ≢ m → owner new h ≡ owner b h
   owner-miss h u ne = owner-there h u ∙ joined-miss (b .edges) m l h u ne
 
   next-there : (h : ℕ) → Used b h → next new h ≡ half-in twice h .next
@@ -233,7 +233,7 @@ module _ (b : Boundary) (p q : Option ℕ) (l m v w k : ℕ) (s : Sound b) (j : 
   two-targets : (a : ℕ) → p ≡ Some a → q ≡ Some a → ⊥
   two-targets a d e = j .apart (sym (j .from .at a d .1) ∙ j .to .at a e .1)
 
-  led-x : (h : ℕ) → Used b h → p ≡ Some (next b h) → next new h ≡ X
+  pub led-x : (h : ℕ) → Used b h → p ≡ Some (next b h) → next new h ≡ X
   led-x h u e = next-there h u ∙ led-to-miss once q Y h (once-in h u) (λ d. x-new (j .to .at X (d ∙ ap Some here) .0)) ∙ here
     where
       here : half-in once h .next ≡ X
@@ -242,10 +242,10 @@ module _ (b : Boundary) (p q : Option ℕ) (l m v w k : ℕ) (s : Sound b) (j : 
   once-miss : (h : ℕ) → Used b h → p ≢ Some (next b h) → half-in once h .next ≡ next b h
   once-miss h u n = led-to-miss relabelled p X h (relabelled-in h u) (λ d. n (d ∙ ap Some (old-next h))) ∙ old-next h
 
-  led-y : (h : ℕ) → Used b h → q ≡ Some (next b h) → next new h ≡ Y
+  pub led-y : (h : ℕ) → Used b h → q ≡ Some (next b h) → next new h ≡ Y
   led-y h u e = next-there h u ∙ led-to-hit once q Y h (once-in h u) (e ∙ ap Some (sym (once-miss h u (λ d. two-targets (next b h) d e))))
 
-  next-is : (h : ℕ) → Used b h → p ≢ Some (next b h) → q ≢ Some (next b h) → next new h ≡ next b h
+  pub next-is : (h : ℕ) → Used b h → p ≢ Some (next b h) → q ≢ Some (next b h) → next new h ≡ next b h
   next-is h u n o = next-there h u ∙ led-to-miss once q Y h (once-in h u) (λ d. o (d ∙ ap Some (once-miss h u n))) ∙ once-miss h u n
 
   -- round the loops before they join: the two halves have not yet changed what follows them
@@ -374,7 +374,7 @@ module _ (b : Boundary) (p q : Option ℕ) (l m v w k : ℕ) (s : Sound b) (j : 
   new-vertices = enter-two-keeps (vertex-rings b s) vertices-entered
 
   -- the loops in use, and their fields
-  abbrev empty : Loop
+  abbrev pub empty : Loop
   empty = record { face = face-of (row (b .loops) l); lone = None }
 
   loop-in : (n : ℕ) → n ≢ m → Has (b .loops) n → Has (new .loops) n
@@ -388,7 +388,7 @@ module _ (b : Boundary) (p q : Option ℕ) (l m v w k : ℕ) (s : Sound b) (j : 
   loop-here : row (new .loops) l ≡ Some empty
   loop-here = row-put-other (set (b .loops) l (Some empty)) m l None (j .apart) ∙ row-put-same (b .loops) l (Some empty) (has-below (b .loops) l (j .from .loop-used))
 
-  loop-there : (n : ℕ) → n ≢ l → n ≢ m → row (new .loops) n ≡ row (b .loops) n
+  pub loop-there : (n : ℕ) → n ≢ l → n ≢ m → row (new .loops) n ≡ row (b .loops) n
   loop-there n nl nm = row-put-other (set (b .loops) l (Some empty)) m n None nm ∙ row-put-other (b .loops) l n (Some empty) nl
 
   lone-here : lone new l ≡ None
@@ -435,7 +435,7 @@ module _ (b : Boundary) (p q : Option ℕ) (l m v w k : ℕ) (s : Sound b) (j : 
   here-used = loop-in l (j .apart) (j .from .loop-used)
 
   -- where a half-edge lies now: on the joined loop, or where it lay
-  owner-cases : (h : ℕ) → Used new h → (owner new h ≡ l) ⊎ (Used b h × (owner new h ≡ owner b h) × (owner b h ≢ m))
+  pub owner-cases : (h : ℕ) → Used new h → (owner new h ≡ l) ⊎ (Used b h × (owner new h ≡ owner b h) × (owner b h ≢ m))
   owner-cases h u = elim (used-out h u) [
     | inl d ↦ inl (ap (owner new) d ∙ x-owner)
     | inr more ↦ elim more [
@@ -586,7 +586,7 @@ place-by b s a l false u e = at-lone b s l (valueOr (lone b l) 0) (some-value (l
 place : (b : Boundary) → Sound b → (a : ℕ) → place-used b a ≡ true → has-vertex b a ≡ true → Place b (target (is-half-place a) a) (place-loop b a) (place-vertex b a)
 place b s a u e = place-by b s a (a - 512) (is-half-place a) u e
 
-linkable : (b : Boundary) (a c k : ℕ) → Sound b → k < 192 → mekr-refusal b a c k ≡ None → Linkable b (target (is-half-place a) a) (target (is-half-place c) c) (place-loop b a) (place-loop b c) (place-vertex b a) (place-vertex b c) k
+pub linkable : (b : Boundary) (a c k : ℕ) → Sound b → k < 192 → mekr-refusal b a c k ≡ None → Linkable b (target (is-half-place a) a) (target (is-half-place c) c) (place-loop b a) (place-loop b c) (place-vertex b a) (place-vertex b c) k
 linkable b a c k s lt r =
     let l : ℕ = place-loop b a in
     let m : ℕ = place-loop b c in

@@ -1,7 +1,7 @@
 -- A new edge and a new vertex come into a ring just before their place, or are the whole ring at a lone vertex, and the other rings stay.
 use mathlib.Core.Path.{_≡_, refl, sym, ap, subst, _∙_}
-use mathlib.Core.Logic.{_≢_, _⊎_, inl, inr}
-use mathlib.Core.Bool.{Bool, true, false, cond}
+use mathlib.Core.Logic.{_≢_, inl, inr}
+use mathlib.Core.Bool.{true, false, cond}
 use mathlib.Core.List.{List, [], _∷_}
 use Prim.Native.Nat.{ℕ, _+_, _*_, _-_, _<_}
 use native.Mathlib.Omega.{arith}
@@ -22,10 +22,7 @@ use Rattle.rules.proofs.Grown.{NewEdge}
 use Rattle.rules.proofs.MevBefore.{next-even, next-odd, next-hit, next-miss, new-edge-is}
 use Rattle.rules.proofs.MevLone.{next-even as lone-even, next-odd as lone-odd, next-old, new-edge-is as lone-edge-is, row-other}
 use Rattle.rules.proofs.Mev.{mev-free}
-use Rattle.rules.proofs.RingLists.{in-none, in-first, in-rest, in-cases, leads-led, Kept, ring-kept}
-
-pub not-that : (l m : ℕ) → (In (l ∷ []) m → ⊥) → m ≢ l
-not-that l m n e = n (subst (In (l ∷ [])) (sym e) (in-first l []))
+use Rattle.rules.proofs.RingLists.{in-none, in-first, in-rest, in-cases, in-not-first, leads-led, Kept, ring-kept}
 
 -- the half-edges of c are those of b and the two of the edge k, on the loop l
 module _ (b c : Boundary) (k w v l : ℕ) (new : NewEdge b (c .edges) k w v l) where
@@ -98,7 +95,7 @@ module _ (b : Boundary) (h k v : ℕ) (p : Point) (s : Sound b) (k-small : k < 1
 
   before-else : Else b (mev-before b h k v p) (l ∷ [])
   before-else = record {
-    rings = λ m js n. ring-kept b (mev-before b h k v p) m js (others-kept b (mev-before b h k v p) k (start b h) v l new-here m (not-that l m n) (stays m (not-that l m n)));
+    rings = λ m js n. ring-kept b (mev-before b h k v p) m js (others-kept b (mev-before b h k v p) k (start b h) v l new-here m (in-not-first l m [] n) (stays m (in-not-first l m [] n)));
     lones = λ m n. refl;
   }
     where
@@ -115,8 +112,8 @@ module _ (b : Boundary) (l k v : ℕ) (p : Point) (s : Sound b) (k-small : k < 1
 
   lone-else : Else b (mev-lone b l k v p) (l ∷ [])
   lone-else = record {
-    rings = λ m js n. ring-kept b (mev-lone b l k v p) m js (others-kept b (mev-lone b l k v p) k (valueOr (lone b l) 0) v l new-alone m (not-that l m n) (λ j u e. next-old b l k v (valueOr (lone b l) 0) s is-lone k-small k-free j u));
-    lones = λ m n. ap lone-of (row-other b l k v (valueOr (lone b l) 0) s is-lone k-small k-free m (not-that l m n));
+    rings = λ m js n. ring-kept b (mev-lone b l k v p) m js (others-kept b (mev-lone b l k v p) k (valueOr (lone b l) 0) v l new-alone m (in-not-first l m [] n) (λ j u e. next-old b l k v (valueOr (lone b l) 0) s is-lone k-small k-free j u));
+    lones = λ m n. ap lone-of (row-other b l k v (valueOr (lone b l) 0) s is-lone k-small k-free m (in-not-first l m [] n));
   }
 
 -- which of the two the operator is

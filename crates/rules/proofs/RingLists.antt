@@ -28,6 +28,14 @@ in-cases x h hs (suc i, lt, at) = inr (i, omega arith, at)
 pub in-one : (x h : ℕ) → In (x ∷ []) h → h ≡ x
 in-one x h i = elim (in-cases x h [] i) [ inl e ↦ e | inr none ↦ absurd (in-none h none) ]
 
+-- what does not stand in a list is not its first, nor in the rest
+pub in-not-first : (x h : ℕ) (hs : List ℕ) → (In (x ∷ hs) h → ⊥) → h ≢ x
+in-not-first x h hs n e = n (subst (In (x ∷ hs)) (sym e) (in-first x hs))
+
+pub in-not-rest : (x h : ℕ) (hs : List ℕ) → (In (x ∷ hs) h → ⊥) → In hs h → ⊥
+in-not-rest x h hs n i = n (in-rest x h hs i)
+
+-- in a list put together
 pub in-left : (xs ys : List ℕ) (h : ℕ) → In xs h → In (xs ++ ys) h
 in-left xs ys h i = has-append-left xs ys h i
 

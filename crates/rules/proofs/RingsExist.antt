@@ -1,12 +1,12 @@
 -- Every half-edge of a sound boundary stands first in a list that is the ring of its loop.
-use mathlib.Core.Path.{_≡_, refl, sym, ap, subst, _∙_}
+use mathlib.Core.Path.{_≡_, refl, sym, _∙_}
 use mathlib.Core.List.{List, [], _∷_}
 use Prim.Native.Nat.{ℕ, zero, suc, _<_}
 use native.Mathlib.Omega.{arith}
 use lib.ListN.{length, getD}
 use Rattle.boundary.specs.declared.Boundary.{Boundary}
 use Rattle.boundary.specs.Tables.{next, owner}
-use Rattle.rings.specs.Rings.{walk, run, First, Round}
+use Rattle.rings.specs.Rings.{walk, run, First}
 use Rattle.rings.proofs.Walks.{walk-first}
 use Rattle.rings.proofs.Round.{comes-round, round}
 use Rattle.rules.specs.Rules.{Used, Sound}
