@@ -22,7 +22,6 @@ pub mod MevLaw
 pub mod KevHalves
 pub mod Kev
 pub mod KevLaw
-pub mod Owned
 pub mod Mef
 pub mod Histories
 pub mod Enter
