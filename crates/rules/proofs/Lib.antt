@@ -34,3 +34,4 @@ pub mod Examples
 pub mod Broken
 pub mod Undo
 pub mod Kemr
+pub mod Consequences

@@ -3,3 +3,4 @@ pub mod Histories
 pub mod RingLaws
 pub mod Examples
 pub mod Broken
+pub mod Consequences
