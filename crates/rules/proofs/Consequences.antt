@@ -1,10 +1,10 @@
 -- What follows of every sound boundary: the rings of its loops and of its vertices say it all but the faces.
-use mathlib.Core.Path.{_≡_, sym, ap, _∙_}
+use mathlib.Core.Path.{sym, ap, _∙_}
 use Prim.Native.Nat.{ℕ, suc, _<_}
 use native.Mathlib.Omega.{arith}
 use Rattle.boundary.specs.declared.Boundary.{Boundary}
 use Rattle.boundary.specs.Tables.{next, owner, loop-face}
-use Rattle.rings.specs.Rings.{Rings, First}
+use Rattle.rings.specs.Rings.{Rings}
 use Rattle.rings.proofs.Walks.{walk-first}
 use Rattle.rings.proofs.Facts.{before, injective}
 use Rattle.rings.proofs.Round.{comes-round, round, within-bound}

@@ -35,3 +35,4 @@ pub mod Broken
 pub mod Undo
 pub mod Kemr
 pub mod Consequences
+pub mod UndoMef

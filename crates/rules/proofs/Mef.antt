@@ -35,16 +35,16 @@ use Rattle.rules.proofs.Led.{Alike, owned-alike, led-twice, twice-has-in, twic
 use Rattle.rules.proofs.Erase.{some-none}
 
 -- what an accepted edit says
-record Asked (b : Boundary) (h j k f l : ℕ) : Type 0 where
-  h-used : Used b h
-  j-used : Used b j
-  edge-free : Has (b .edges) k → ⊥
-  face-free : Has (b .faces) f → ⊥
-  loop-free : Has (b .loops) l → ⊥
-  apart : h ≢ j
-  together : owner b h ≡ owner b j
+pub record Asked (b : Boundary) (h j k f l : ℕ) : Type 0 where
+  pub h-used : Used b h
+  pub j-used : Used b j
+  pub edge-free : Has (b .edges) k → ⊥
+  pub face-free : Has (b .faces) f → ⊥
+  pub loop-free : Has (b .loops) l → ⊥
+  pub apart : h ≢ j
+  pub together : owner b h ≡ owner b j
 
-asked : (b : Boundary) (h j k f l : ℕ) → mef-refusal b h j k f l ≡ None → Asked b h j k f l
+pub asked : (b : Boundary) (h j k f l : ℕ) → mef-refusal b h j k f l ≡ None → Asked b h j k f l
 asked b h j k f l q =
     let r = unless-none (half-used b h && half-used b j) Unused _ q in
     let t = unless-none (free (b .edges) k && (free (b .faces) f && free (b .loops) l)) Taken _ (r .1) in
@@ -64,35 +64,35 @@ asked b h j k f l q =
     }
 
 -- the boundary c has of b what a drawn edge leaves: x follows what led to h, and y what led to j
-record Made (b c : Boundary) (h j x y f l : ℕ) : Type 0 where
-  mate-x : mate x ≡ y
-  mate-y : mate y ≡ x
-  x-new : Used b x → ⊥
-  in-use : (i : ℕ) → Used c i → (i ≡ x) ⊎ ((i ≡ y) ⊎ Used b i)
-  x-in-use : Used c x
-  y-in-use : Used c y
-  still-in-use : (i : ℕ) → Used b i → Used c i
-  x-half : half c x ≡ half-edge (start b h) j (owner b h)
-  y-half : half c y ≡ half-edge (start b j) h l
-  old-start : (i : ℕ) → Used b i → start c i ≡ start b i
-  to-h : (i : ℕ) → Used b i → next b i ≡ h → next c i ≡ x
-  to-j : (i : ℕ) → Used b i → next b i ≡ j → next c i ≡ y
-  elsewhere : (i : ℕ) → Used b i → next b i ≢ h → next b i ≢ j → next c i ≡ next b i
-  on-run : (i : ℕ) → Used b i → In (run (next b) 384 h j) i → owner c i ≡ l
-  off-run : (i : ℕ) → Used b i → (In (run (next b) 384 h j) i → ⊥) → owner c i ≡ owner b i
-  new-loop : row (c .loops) l ≡ Some (record { face = f; lone = None })
-  old-loop : (i : ℕ) → i ≢ l → row (c .loops) i ≡ row (b .loops) i
-  new-face : row (c .faces) f ≡ Some (record { shell = loop-shell b (owner b h); outer = l })
-  old-face : (i : ℕ) → i ≢ f → row (c .faces) i ≡ row (b .faces) i
-  same-vertices : c .vertices ≡ b .vertices
-  same-shells : c .shells ≡ b .shells
-  same-handles : c .handles ≡ b .handles
-  edge-count : count (c .edges) ≡ count (b .edges) + 1
-  loop-count : count (c .loops) ≡ count (b .loops) + 1
-  face-count : count (c .faces) ≡ count (b .faces) + 1
-  edge-length : length (c .edges) ≡ length (b .edges)
-  loop-length : length (c .loops) ≡ length (b .loops)
-  face-length : length (c .faces) ≡ length (b .faces)
+pub record Made (b c : Boundary) (h j x y f l : ℕ) : Type 0 where
+  pub mate-x : mate x ≡ y
+  pub mate-y : mate y ≡ x
+  pub x-new : Used b x → ⊥
+  pub in-use : (i : ℕ) → Used c i → (i ≡ x) ⊎ ((i ≡ y) ⊎ Used b i)
+  pub x-in-use : Used c x
+  pub y-in-use : Used c y
+  pub still-in-use : (i : ℕ) → Used b i → Used c i
+  pub x-half : half c x ≡ half-edge (start b h) j (owner b h)
+  pub y-half : half c y ≡ half-edge (start b j) h l
+  pub old-start : (i : ℕ) → Used b i → start c i ≡ start b i
+  pub to-h : (i : ℕ) → Used b i → next b i ≡ h → next c i ≡ x
+  pub to-j : (i : ℕ) → Used b i → next b i ≡ j → next c i ≡ y
+  pub elsewhere : (i : ℕ) → Used b i → next b i ≢ h → next b i ≢ j → next c i ≡ next b i
+  pub on-run : (i : ℕ) → Used b i → In (run (next b) 384 h j) i → owner c i ≡ l
+  pub off-run : (i : ℕ) → Used b i → (In (run (next b) 384 h j) i → ⊥) → owner c i ≡ owner b i
+  pub new-loop : row (c .loops) l ≡ Some (record { face = f; lone = None })
+  pub old-loop : (i : ℕ) → i ≢ l → row (c .loops) i ≡ row (b .loops) i
+  pub new-face : row (c .faces) f ≡ Some (record { shell = loop-shell b (owner b h); outer = l })
+  pub old-face : (i : ℕ) → i ≢ f → row (c .faces) i ≡ row (b .faces) i
+  pub same-vertices : c .vertices ≡ b .vertices
+  pub same-shells : c .shells ≡ b .shells
+  pub same-handles : c .handles ≡ b .handles
+  pub edge-count : count (c .edges) ≡ count (b .edges) + 1
+  pub loop-count : count (c .loops) ≡ count (b .loops) + 1
+  pub face-count : count (c .faces) ≡ count (b .faces) + 1
+  pub edge-length : length (c .edges) ≡ length (b .edges)
+  pub loop-length : length (c .loops) ≡ length (b .loops)
+  pub face-length : length (c .faces) ≡ length (b .faces)
 
 module _ (b c : Boundary) (h j k x y f l : ℕ) (s : Sound b) (a : Asked b h j k f l) (d : Made b c h j x y f l) where
   old-rings : Rings (next b) (Used b) (owner b)
@@ -132,31 +132,31 @@ module _ (b c : Boundary) (h j k x y f l : ℕ) (s : Sound b) (a : Asked b h j k
   }
 
   -- the run
-  met : Met (next b) 384 h j
+  pub met : Met (next b) 384 h j
   met = loop-meets b s h j (a .h-used) (a .j-used) (a .together)
 
   few : met .steps ≤ 384
   few = omega (arith, met .few)
 
-  abbrev On : ℕ → Type 0
+  abbrev pub On : ℕ → Type 0
   On = OnRun (next b) h (met .steps)
 
-  on? : (i : ℕ) → Dec (On i)
+  pub on? : (i : ℕ) → Dec (On i)
   on? = on-run? (next b) h (met .steps)
 
-  on-owner : (i : ℕ) → Used b i → On i → owner c i ≡ l
+  pub on-owner : (i : ℕ) → Used b i → On i → owner c i ≡ l
   on-owner i u o = d .on-run i u (in-from-on (next b) 384 h j (met .steps) i (met .first) few o)
 
-  off-owner : (i : ℕ) → Used b i → (On i → ⊥) → owner c i ≡ owner b i
+  pub off-owner : (i : ℕ) → Used b i → (On i → ⊥) → owner c i ≡ owner b i
   off-owner i u n = d .off-run i u (λ m. n (on-from-in (next b) 384 h j (met .steps) i (met .first) few m))
 
-  was-owner : (i : ℕ) → On i → owner b i ≡ owner b h
+  pub was-owner : (i : ℕ) → On i → owner b i ≡ owner b h
   was-owner i o = ap (owner b) (sym (o .is)) ∙ walk-label old-rings (o .place) h (a .h-used)
 
   sooner : (n : ℕ) × (met .steps ≡ suc n) × First (next b) h q n
   sooner = last-step old-rings h j q (met .steps) (a .h-used) (before-j .1) (before-j .2) (a .apart) (met .first)
 
-  fresh : (i : ℕ) → Used b i → owner b i ≢ l
+  pub fresh : (i : ℕ) → Used b i → owner b i ≢ l
   fresh i u e = a .loop-free (subst (Has (b .loops)) e (s .named .owner-used i u))
 
   loop-labels : LoopLabels (next b) (Used b) (owner b) (owner c) p q x y (sooner .0) l
@@ -426,7 +426,7 @@ module _ (b : Boundary) (h j k f l : ℕ) (z : Sizes b) (a : Asked b h j k f l) 
     | inr more ↦ elim more [ inl e ↦ inr (inl e) | inr v ↦ inr (inr (out₃ (i / 2) v)) ]
   ]
 
-  has-made : Made b made h j (2 * k) (2 * k + 1) f l
+  pub has-made : Made b made h j (2 * k) (2 * k + 1) f l
   has-made = record {
     mate-x = mate-of-even k;
     mate-y = mate-of-odd k;

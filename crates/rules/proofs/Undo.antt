@@ -3,7 +3,7 @@ use mathlib.Core.Path.{_≡_, refl, sym, ap, subst, _∙_}
 use mathlib.Core.Logic.{_≢_, _⊎_}
 use mathlib.Core.Bool.{Bool, true, false, cond, _&&_}
 use mathlib.Core.List.{List}
-use Prim.Native.Nat.{ℕ, _+_, _*_, _-_, _<_, _≤_}
+use Prim.Native.Nat.{ℕ, _+_, _*_, _-_, _/_, _<_, _≤_}
 use native.Mathlib.Decide.{ℕ-discrete}
 use native.Mathlib.Omega.{arith}
 use lib.Dec.{T, eqb}
@@ -19,7 +19,7 @@ use Rattle.boundary.specs.declared.Edge.{Edge}
 use Rattle.boundary.specs.declared.Loop.{Loop}
 use Rattle.boundary.specs.declared.Boundary.{Boundary}
 use Rattle.boundary.specs.declared.Refusal.the-variants.{Taken}
-use Rattle.boundary.specs.Tables.{row, side, start, next, mate, lone, lone-of, face-of, shell-of, outer-of, in-shell, is-half-place}
+use Rattle.boundary.specs.Tables.{row, side, half-in, start, next, mate, lone, lone-of, face-of, shell-of, outer-of, in-shell, is-half-place}
 use Rattle.boundary.specs.Changes.{clear-shell, clear-face, clear-loop, clear-vertex, clear-edge, emptied, led, led-half, led-edge, led-in}
 use Rattle.boundary.specs.Operators.{face-in, kvfs, mvfs, kev, mev, mev-before, mev-lone}
 use Rattle.boundary.specs.Refusals.{free, mvfs-refusal, mev-refusal}
@@ -41,6 +41,27 @@ put-back t z k r size here other = ext-getD None (set z k r) t (length-put z k r
 -- a row that was free is put and cleared
 pub put-clear : {X : Type 0} (t : List (Option X)) (k : ℕ) (x : X) → (Has t k → ⊥) → set (set t k (Some x)) k None ≡ t
 put-clear t k x n = put-back t (set t k (Some x)) k None (length-put t k (Some x)) (no-row t k n) (λ i ne. row-put-other t k i (Some x) ne)
+
+-- a row of edges by its two halves
+same-row : (r q : Option Edge) → (T (isSome r) → T (isSome q)) → (T (isSome q) → T (isSome r)) → (T (isSome q) → (c : Bool) → side r c ≡ side q c) → r ≡ q
+same-row None None to from same = refl
+same-row None (Some e) to from same = absurd (from tt)
+same-row (Some e) None to from same = absurd (to tt)
+same-row (Some e) (Some d) to from same =
+    let p = same tt true in
+    let q = same tt false in
+    λ i. Some (record { even = p i; odd = q i })
+
+pub row-by-halves : (z t : List (Option Edge)) (i : ℕ) → (Has z i → Has t i) → (Has t i → Has z i) → ((h : ℕ) → h / 2 ≡ i → Has t (h / 2) → half-in z h ≡ half-in t h) → row z i ≡ row t i
+row-by-halves z t i to from same = same-row (row z i) (row t i) to from sides
+  where
+    sides : T (isSome (row t i)) → (c : Bool) → side (row z i) c ≡ side (row t i) c
+    sides u true = sym (half-even z i) ∙ same (2 * i) (half-of-even i) (subst (Has t) (sym (half-of-even i)) u) ∙ half-even t i
+    sides u false = sym (half-odd z i) ∙ same (2 * i + 1) (half-of-odd i) (subst (Has t) (sym (half-of-odd i)) u) ∙ half-odd t i
+
+-- a half-edge by its fields
+pub same-half : (x y : HalfEdge) → x .start ≡ y .start → x .next ≡ y .next → x .owner ≡ y .owner → x ≡ y
+same-half x y p q r = λ i. record { start = p i; next = q i; owner = r i }
 
 -- a half-edge with another after it
 abbrev with-next : HalfEdge → ℕ → HalfEdge
