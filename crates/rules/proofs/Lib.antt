@@ -36,3 +36,4 @@ pub mod Undo
 pub mod Kemr
 pub mod Consequences
 pub mod UndoMef
+pub mod BesideLaws

@@ -14,9 +14,9 @@ use Rattle.std.specs.shelf.Lists.{Has as In}
 use Rattle.std.specs.declared.option.Option.the-variants.{None, Some}
 use Rattle.boundary.specs.declared.Point.{Point}
 use Rattle.boundary.specs.declared.Boundary.{Boundary}
-use Rattle.boundary.specs.Tables.{start, next, owner, mate, lone}
-use Rattle.boundary.specs.Operators.{mvfs, kvfs, mev, kev, mef, kef, kemr, mekr, kfmrh, move}
-use Rattle.boundary.specs.Refusals.{mvfs-refusal, kvfs-refusal, mev-refusal, kev-refusal, mef-refusal, kef-refusal, kemr-refusal, mekr-refusal, kfmrh-refusal, move-refusal}
+use Rattle.boundary.specs.Tables.{row, start, next, owner, mate, lone, outer-of}
+use Rattle.boundary.specs.Operators.{mvfs, kvfs, face-in, mev, kev, mef, kef, kemr, mekr, kfmrh, move}
+use Rattle.boundary.specs.Refusals.{mvfs-refusal, mev-refusal, kev-refusal, mef-refusal, kef-refusal, kemr-refusal, mekr-refusal}
 use Rattle.rules.specs.Rules.{Used, Sound}
 
 -- f leads along hs, and from its last to k
@@ -83,6 +83,29 @@ pub record MekrLaw (b : Boundary) (a c k : ℕ) : Type 0 where
   pub ring : (l i v w : ℕ) (xs ys : List ℕ) → At b a l xs v → At b c i ys w → RingOf (mekr b a c k) l (2 * k ∷ ys ++ (2 * k + 1) ∷ xs)
   pub others : (l i v w : ℕ) (xs ys : List ℕ) → At b a l xs v → At b c i ys w → Else b (mekr b a c k) (l ∷ i ∷ [])
 
+-- a new loop with its lone vertex
+pub record MvfsLaw (b : Boundary) (a f l v : ℕ) (p : Point) : Type 0 where
+  pub new : lone (mvfs b a f l v p) l ≡ Some v
+  pub others : Else b (mvfs b a f l v p) (l ∷ [])
+
+-- the loop of the one face goes
+pub record KvfsLaw (b : Boundary) (a : ℕ) : Type 0 where
+  pub others : Else b (kvfs b a) (outer-of (row (b .faces) (face-in b a)) ∷ [])
+
+-- a loop moves to another face, and every ring and lone vertex stays
+pub record KfmrhLaw (b : Boundary) (f g : ℕ) : Type 0 where
+  pub others : Else b (kfmrh b f g) []
+
+-- one vertex row changes, and nothing else
+pub record MoveLaw (b : Boundary) (v : ℕ) (p : Point) : Type 0 where
+  pub moved : row (move b v p .vertices) v ≡ Some p
+  pub other-rows : (k : ℕ) → k ≢ v → row (move b v p .vertices) k ≡ row (b .vertices) k
+  pub edges : move b v p .edges ≡ b .edges
+  pub loops : move b v p .loops ≡ b .loops
+  pub faces : move b v p .faces ≡ b .faces
+  pub shells : move b v p .shells ≡ b .shells
+  pub handles : move b v p .handles ≡ b .handles
+
 -- every loop of a sound boundary has its ring or its lone vertex, so that the laws speak of something
 pub record HasRings (b : Boundary) : Type 0 where
   pub at-half-edge : (h : ℕ) → Used b h → (hs : List ℕ) × RingOf b (owner b h) (h ∷ hs)
@@ -101,10 +124,14 @@ pub record Undone (b : Boundary) : Type 0 where
 -- the laws, for every sound boundary and every edit that it accepts
 pub record RingLaws (b : Boundary) : Type 0 where
   pub rings : HasRings b
+  pub mvfs-law : (a f l v : ℕ) (p : Point) → l < 96 → MvfsLaw b a f l v p
+  pub kvfs-law : (a : ℕ) → KvfsLaw b a
   pub mev-law : (a k v : ℕ) (p : Point) → k < 192 → v < 128 → mev-refusal b a k v ≡ None → MevLaw b a k v p
   pub kev-law : (h : ℕ) → h < 384 → kev-refusal b h ≡ None → KevLaw b h
   pub mef-law : (h j k f l : ℕ) → h < 384 → j < 384 → k < 192 → f < 96 → l < 96 → mef-refusal b h j k f l ≡ None → MefLaw b h j k f l
   pub kef-law : (h : ℕ) → h < 384 → kef-refusal b h ≡ None → KefLaw b h
   pub kemr-law : (h l : ℕ) → h < 384 → l < 96 → kemr-refusal b h l ≡ None → KemrLaw b h l
   pub mekr-law : (a c k : ℕ) → k < 192 → mekr-refusal b a c k ≡ None → MekrLaw b a c k
+  pub kfmrh-law : (f g : ℕ) → KfmrhLaw b f g
+  pub move-law : (v : ℕ) (p : Point) → v < 128 → MoveLaw b v p
   pub undone : Undone b
