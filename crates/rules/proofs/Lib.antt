@@ -37,3 +37,5 @@ pub mod Kemr
 pub mod Consequences
 pub mod UndoMef
 pub mod BesideLaws
+pub mod UndoKemr
+pub mod Undone
