@@ -9,6 +9,7 @@ pub mod Runs
 pub mod Edges
 pub mod RingLists
 pub mod RingsExist
+pub mod RingRuns
 pub mod Move
 pub mod Mvfs
 pub mod Kvfs
@@ -23,6 +24,7 @@ pub mod KevHalves
 pub mod Kev
 pub mod KevLaw
 pub mod Mef
+pub mod MefLaw
 pub mod Histories
 pub mod Enter
 pub mod Mekr

@@ -230,7 +230,7 @@ module _ (b c : Boundary) (h j k x y f l : ℕ) (s : Sound b) (a : Asked b h j k
   lone-l : lone c l ≡ None
   lone-l = ap lone-of (d .new-loop)
 
-  lone-same : (i : ℕ) → i ≢ l → lone c i ≡ lone b i
+  pub lone-same : (i : ℕ) → i ≢ l → lone c i ≡ lone b i
   lone-same i ne = ap lone-of (d .old-loop i ne)
 
   lone-was : (i v : ℕ) → lone c i ≡ Some v → (i ≢ l) × (lone b i ≡ Some v)

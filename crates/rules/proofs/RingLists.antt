@@ -3,6 +3,7 @@ use mathlib.Core.Path.{_≡_, refl, sym, ap, subst, _∙_}
 use mathlib.Core.Logic.{_≢_, _⊎_, inl, inr}
 use mathlib.Core.List.{List, [], _∷_, _++_}
 use Prim.Native.Nat.{ℕ, zero, suc, _<_}
+use native.Mathlib.Decide.{ℕ-discrete}
 use native.Mathlib.Omega.{arith}
 use Rattle.std.specs.shelf.Lists.{Has as In}
 use Rattle.std.proofs.shelf.Elements.{has-append-left, has-append-right}
@@ -48,6 +49,26 @@ in-parts (x ∷ xs) ys h i = elim (in-cases x h (xs ++ ys) i) [
   | inl e ↦ inl (subst (In (x ∷ xs)) (sym e) (in-first x xs))
   | inr more ↦ elim (in-parts xs ys h more) [ inl j ↦ inl (in-rest x h xs j) | inr j ↦ inr j ]
 ]
+
+pub in? : (hs : List ℕ) (h : ℕ) → Dec (In hs h)
+in? [] h = no (in-none h)
+in? (x ∷ hs) h = elim (ℕ-discrete h x) [
+  | yes e ↦ yes (subst (In (x ∷ hs)) (sym e) (in-first x hs))
+  | no ne ↦ elim (in? hs h) [
+    | yes i ↦ yes (in-rest x h hs i)
+    | no n ↦ no (λ i. elim (in-cases x h hs i) [ inl e ↦ ne e | inr more ↦ n more ])
+  ]
+]
+
+-- one that is not the first stands behind it
+pub in-behind : (x h : ℕ) (hs : List ℕ) → In (x ∷ hs) h → h ≢ x → In hs h
+in-behind x h hs i ne = elim (in-cases x h hs i) [ inl e ↦ absurd (ne e) | inr more ↦ more ]
+
+pub none-of-two : (l m h : ℕ) → (In (l ∷ m ∷ []) h → ⊥) → (h ≢ l) × (h ≢ m)
+none-of-two l m h n = (
+  λ e. n (subst (In (l ∷ m ∷ [])) (sym e) (in-first l (m ∷ []))),
+  λ e. n (subst (In (l ∷ m ∷ [])) (sym e) (in-rest l m (m ∷ []) (in-first m []))),
+)
 
 -- none stands twice: in a list put together, and in its parts
 pub once-append : (xs ys : List ℕ) → once xs → once ys → ((h : ℕ) → In xs h → In ys h → ⊥) → once (xs ++ ys)
