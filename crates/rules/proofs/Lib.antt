@@ -41,3 +41,4 @@ pub mod UndoMef
 pub mod BesideLaws
 pub mod UndoKemr
 pub mod Undone
+pub mod RingLaws

@@ -30,8 +30,8 @@ use Rattle.rules.proofs.Rows.{true-T, unless-none, free-not-has, has-row, has-
 use Rattle.rules.proofs.Halves.{half-of-even, half-of-odd, half-even, half-odd, mate-of-even, mate-of-odd, led-start, led-owner, led-hit, led-miss, joined-start, joined-next, joined-hit, joined-miss, owned-has-in, owned-has-out, owned-length, owned-start, owned-next, owned-hit, owned-miss}
 use Rattle.rules.proofs.Views.{loop-rings, half-below}
 use Rattle.rules.proofs.Runs.{Met, loop-meets, in-from-on, on-from-in}
-use Rattle.rules.proofs.Owned.{count-owned}
-use Rattle.rules.proofs.Erase.{alone-in, Alike, erased-in, erased-length, erased-still, erased-start, erased-owner, erased-first, erased-second, erased-other, lone-put, emptied-is, lone-put-other, lone-put-face, lone-put-true, lone-put-length}
+use Rattle.rules.proofs.Led.{Alike, owned-alike}
+use Rattle.rules.proofs.Erase.{alone-in, erased-in, erased-length, erased-still, erased-start, erased-owner, erased-first, erased-second, erased-other, lone-put, emptied-is, lone-put-other, lone-put-face, lone-put-true, lone-put-length}
 use Rattle.rules.proofs.Undo.{put-back, row-by-halves, same-half}
 
 -- what an accepted edit says of the edge k
@@ -188,16 +188,7 @@ module _ (b : Boundary) (k l : ℕ) (s : Sound b) (q : Asked b k l) (l-small : l
       ∙ ap (λ z. clear-edge z (2 * k / 2)) (emptied-is (eqb (next b (2 * k + 1)) (2 * k)) (put-loop (led (led (owned b (run (next b) 384 (next b (2 * k)) (2 * k + 1)) l) (2 * k + 1) (next b (2 * k))) (2 * k) (next b (2 * k + 1))) l new-loop) (owner b (2 * k)) (start b (2 * k)))
 
   alike : Alike (b .edges) run-on
-  alike =
-      let hs = run (next b) 384 (next b (2 * k)) (2 * k + 1) in
-      record {
-        has-in = owned-has-in (b .edges) hs l;
-        has-out = owned-has-out (b .edges) hs l;
-        starts = owned-start (b .edges) hs l;
-        nexts = owned-next (b .edges) hs l;
-        lengths = owned-length (b .edges) hs l;
-        counts = count-owned (b .edges) hs l;
-      }
+  alike = owned-alike (b .edges) (run (next b) 384 (next b (2 * k)) (2 * k + 1)) l
 
   not-mate : (i : ℕ) → i ≢ 2 * k + 1 → i ≢ mate (2 * k)
   not-mate i ne e = ne (e ∙ mate-of-even k)
