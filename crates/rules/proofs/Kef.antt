@@ -35,12 +35,12 @@ use Rattle.rules.proofs.Led.{Alike, joined-alike}
 use Rattle.rules.proofs.Erase.{some-same, some-none, alone-in, pair-in, past-on, past-over, Gone, halves-apart, erased, turns-left, after-x, after-y, erased-in, erased-in-use, erased-length, erased-count, erased-still, erased-start, erased-owner, erased-first, erased-second, erased-other, lone-put, emptied-is, lone-put-has-in, lone-put-has-out, lone-put-other, lone-put-face, lone-put-true, lone-put-false, lone-put-length, lone-put-count}
 
 -- what an accepted edit says of the half-edge x and its mate y
-record Asked (b : Boundary) (x y : ℕ) : Type 0 where
-  x-used : Used b x
-  apart : owner b x ≢ owner b y
-  only : loops-in b (loop-face b (owner b x)) ≡ 1
+pub record Asked (b : Boundary) (x y : ℕ) : Type 0 where
+  pub x-used : Used b x
+  pub apart : owner b x ≢ owner b y
+  pub only : loops-in b (loop-face b (owner b x)) ≡ 1
 
-asked : (b : Boundary) (h : ℕ) → kef-refusal b h ≡ None → Asked b h (mate h)
+pub asked : (b : Boundary) (h : ℕ) → kef-refusal b h ≡ None → Asked b h (mate h)
 asked b h q =
     let r = unless-none (half-used b h) Unused _ q in
     let t = unless-none (not (eqb (owner b h) (owner b (mate h))) && eqb (loops-in b (loop-face b (owner b h))) 1) Condition None (r .1) in
@@ -56,27 +56,27 @@ abbrev Alone : Boundary → ℕ → ℕ → Type 0
 Alone b x y = (next b x ≡ x) × (next b y ≡ y)
 
 -- the boundary c has of b what is left without the edge of x and y, the loop of x and its face
-record Left (b c : Boundary) (x y : ℕ) : Type 0 where
-  gone : Gone b c y x
-  joins : (i : ℕ) → Used b i → i ≢ x → i ≢ y → owner c i ≡ cond (eqb (owner b i) (owner b x)) (owner b y) (owner b i)
-  loop-in : (m : ℕ) → Has (b .loops) m → m ≢ owner b x → Has (c .loops) m
-  loop-out : (m : ℕ) → Has (c .loops) m → Has (b .loops) m × (m ≢ owner b x)
-  old-loop-face : (m : ℕ) → m ≢ owner b x → loop-face c m ≡ loop-face b m
-  lone-other : (m : ℕ) → m ≢ owner b x → m ≢ owner b y → lone c m ≡ lone b m
-  lone-alone : Alone b x y → lone c (owner b y) ≡ Some (start b x)
-  lone-else : (Alone b x y → ⊥) → lone c (owner b y) ≡ lone b (owner b y)
-  face-in : (g : ℕ) → Has (b .faces) g → g ≢ loop-face b (owner b x) → Has (c .faces) g
-  face-out : (g : ℕ) → Has (c .faces) g → Has (b .faces) g × (g ≢ loop-face b (owner b x))
-  old-face : (g : ℕ) → g ≢ loop-face b (owner b x) → row (c .faces) g ≡ row (b .faces) g
-  same-vertices : c .vertices ≡ b .vertices
-  same-shells : c .shells ≡ b .shells
-  same-handles : c .handles ≡ b .handles
-  edge-count : count (c .edges) + 1 ≡ count (b .edges)
-  loop-count : count (c .loops) + 1 ≡ count (b .loops)
-  face-count : count (c .faces) + 1 ≡ count (b .faces)
-  edge-length : length (c .edges) ≡ length (b .edges)
-  loop-length : length (c .loops) ≡ length (b .loops)
-  face-length : length (c .faces) ≡ length (b .faces)
+pub record Left (b c : Boundary) (x y : ℕ) : Type 0 where
+  pub gone : Gone b c y x
+  pub joins : (i : ℕ) → Used b i → i ≢ x → i ≢ y → owner c i ≡ cond (eqb (owner b i) (owner b x)) (owner b y) (owner b i)
+  pub loop-in : (m : ℕ) → Has (b .loops) m → m ≢ owner b x → Has (c .loops) m
+  pub loop-out : (m : ℕ) → Has (c .loops) m → Has (b .loops) m × (m ≢ owner b x)
+  pub old-loop-face : (m : ℕ) → m ≢ owner b x → loop-face c m ≡ loop-face b m
+  pub lone-other : (m : ℕ) → m ≢ owner b x → m ≢ owner b y → lone c m ≡ lone b m
+  pub lone-alone : Alone b x y → lone c (owner b y) ≡ Some (start b x)
+  pub lone-else : (Alone b x y → ⊥) → lone c (owner b y) ≡ lone b (owner b y)
+  pub face-in : (g : ℕ) → Has (b .faces) g → g ≢ loop-face b (owner b x) → Has (c .faces) g
+  pub face-out : (g : ℕ) → Has (c .faces) g → Has (b .faces) g × (g ≢ loop-face b (owner b x))
+  pub old-face : (g : ℕ) → g ≢ loop-face b (owner b x) → row (c .faces) g ≡ row (b .faces) g
+  pub same-vertices : c .vertices ≡ b .vertices
+  pub same-shells : c .shells ≡ b .shells
+  pub same-handles : c .handles ≡ b .handles
+  pub edge-count : count (c .edges) + 1 ≡ count (b .edges)
+  pub loop-count : count (c .loops) + 1 ≡ count (b .loops)
+  pub face-count : count (c .faces) + 1 ≡ count (b .faces)
+  pub edge-length : length (c .edges) ≡ length (b .edges)
+  pub loop-length : length (c .loops) ≡ length (b .loops)
+  pub face-length : length (c .faces) ≡ length (b .faces)
 
 alone? : (b : Boundary) (x y : ℕ) → Dec (Alone b x y)
 alone? b x y = elim (ℕ-discrete (next b x) x) [
@@ -134,22 +134,22 @@ module _ (b c : Boundary) (x y : ℕ) (s : Sound b) (a : Asked b x y) (d : Left 
   new-turns = turns-left b c y x s (d .gone)
 
   -- a half-edge that is left
-  was-used : (i : ℕ) → Used c i → Used b i
+  pub was-used : (i : ℕ) → Used c i → Used b i
   was-used i u = d .gone .in-use i u .0
 
-  not-y : (i : ℕ) → Used c i → i ≢ y
+  pub not-y : (i : ℕ) → Used c i → i ≢ y
   not-y i u = d .gone .in-use i u .1
 
-  not-x : (i : ℕ) → Used c i → i ≢ x
+  pub not-x : (i : ℕ) → Used c i → i ≢ x
   not-x i u = d .gone .in-use i u .2
 
-  stays : (i : ℕ) → Used b i → i ≢ x → i ≢ y → Used c i
+  pub stays : (i : ℕ) → Used b i → i ≢ x → i ≢ y → Used c i
   stays i u nx ny = d .gone .still-in-use i u ny nx
 
   start-was : (i : ℕ) → Used c i → start c i ≡ start b i
   start-was i u = d .gone .old-start i (was-used i u) (not-y i u) (not-x i u)
 
-  owner-was : (i : ℕ) → Used c i → ((owner b i ≡ lx) × (owner c i ≡ ly)) ⊎ ((owner b i ≢ lx) × (owner c i ≡ owner b i))
+  pub owner-was : (i : ℕ) → Used c i → ((owner b i ≡ lx) × (owner c i ≡ ly)) ⊎ ((owner b i ≢ lx) × (owner c i ≡ owner b i))
   owner-was i u = elim (ℕ-discrete (owner b i) lx) [
     | yes e ↦ inl (e, joins ∙ lab-x i e)
     | no ne ↦ inr (ne, joins ∙ lab-other i ne)
@@ -250,10 +250,10 @@ module _ (b c : Boundary) (x y : ℕ) (s : Sound b) (a : Asked b x y) (d : Left 
   y-on : next b y ≢ y → Used c (next b y)
   y-on ne = stays (next b y) (s .named .next-used y y-used) (λ e. a .apart (ap (owner b) (sym e) ∙ after-y-owner)) ne
 
-  owner-lx : (i : ℕ) → Used c i → owner b i ≡ lx → owner c i ≡ ly
+  pub owner-lx : (i : ℕ) → Used c i → owner b i ≡ lx → owner c i ≡ ly
   owner-lx i u e = d .joins i (was-used i u) (not-x i u) (not-y i u) ∙ lab-x i e
 
-  owner-other : (i : ℕ) → Used c i → owner b i ≢ lx → owner c i ≡ owner b i
+  pub owner-other : (i : ℕ) → Used c i → owner b i ≢ lx → owner c i ≡ owner b i
   owner-other i u ne = d .joins i (was-used i u) (not-x i u) (not-y i u) ∙ lab-other i ne
 
   -- the loop of y has a half-edge, unless both rings were emptied
@@ -405,7 +405,7 @@ abbrev loops-left : Boundary → ℕ → ℕ → List (Option Loop)
 loops-left b x y = lone-put (both b x y) (b .loops) (owner b y) (start b x)
 
 -- the operator with the change of the loops written out
-abbrev plain : Boundary → ℕ → ℕ → Boundary
+abbrev pub plain : Boundary → ℕ → ℕ → Boundary
 plain b x y = record {
   shells = b .shells;
   faces = set (b .faces) (loop-face b (owner b x)) None;
@@ -415,7 +415,7 @@ plain b x y = record {
   handles = b .handles;
 }
 
-kef-is : (b : Boundary) (h : ℕ) → kef b h ≡ plain b h (mate h)
+pub kef-is : (b : Boundary) (h : ℕ) → kef b h ≡ plain b h (mate h)
 kef-is b h =
     ap (λ w. clear-face (clear-loop (clear-edge w (h / 2)) (owner b h)) (loop-face b (owner b h)))
     (emptied-is (both b h (mate h)) (led (led (joined b (owner b h) (owner b (mate h))) h (past b h (mate h))) (mate h) (past b (mate h) h)) (owner b (mate h)) (start b h))
@@ -473,7 +473,7 @@ module _ (b : Boundary) (h : ℕ) (s : Sound b) (a : Asked b h (mate h)) where
     | yes p ↦ and-right (eqb (next b h) h) (eqb (next b y) y) (ne-eqb (next b y) y (λ q. n (p, q)))
   ]
 
-  is-left : Left b (plain b h y) h y
+  pub is-left : Left b (plain b h y) h y
   is-left = record {
     gone = is-gone;
     joins = λ i u nx ny. erased-owner (b .edges) es₁ h (past b h y) y (past b y h) h alike i u nx ny ∙ joined-owner (b .edges) (owner b h) (owner b y) i u;

@@ -32,6 +32,8 @@ pub mod Led
 pub mod MekrLaw
 pub mod Erase
 pub mod Kef
+pub mod RingsLeft
+pub mod KefLaw
 pub mod Examples
 pub mod Broken
 pub mod Undo

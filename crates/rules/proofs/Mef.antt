@@ -138,7 +138,7 @@ module _ (b c : Boundary) (h j k x y f l : ℕ) (s : Sound b) (a : Asked b h j k
   few : met .steps ≤ 384
   few = omega (arith, met .few)
 
-  abbrev pub On : ℕ → Type 0
+  abbrev On : ℕ → Type 0
   On = OnRun (next b) h (met .steps)
 
   pub on? : (i : ℕ) → Dec (On i)

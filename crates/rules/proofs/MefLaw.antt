@@ -1,16 +1,16 @@
 -- An edge drawn across a loop closes the run from h to just before j to the ring of the new loop, and the rest to that of the old, and the other rings stay.
 use mathlib.Core.Path.{_≡_, refl, sym, ap, subst, _∙_}
-use mathlib.Core.Logic.{_≢_, _⊎_, inl, inr}
+use mathlib.Core.Logic.{_≢_, inl, inr}
 use mathlib.Core.List.{List, [], _∷_, _++_}
 use Prim.Native.Nat.{ℕ, _+_, _*_, _<_}
 use Rattle.std.specs.shelf.Lists.{Has as In}
 use Rattle.std.specs.declared.option.Option.the-variants.{None}
 use Rattle.boundary.specs.declared.Boundary.{Boundary}
-use Rattle.boundary.specs.Tables.{next, owner, lone, run}
+use Rattle.boundary.specs.Tables.{next, owner, run}
 use Rattle.boundary.specs.Operators.{mef}
 use Rattle.boundary.specs.Refusals.{mef-refusal}
 use Rattle.rules.specs.Rules.{Used, Sound}
-use Rattle.rules.specs.RingLaws.{leads-to, once, RingOf, Else, MefLaw}
+use Rattle.rules.specs.RingLaws.{leads-to, RingOf, Else, MefLaw}
 use Rattle.rules.proofs.Halves.{used-mate}
 use Rattle.rules.proofs.Mef.{Asked, asked, Made, has-made, on?, on-owner, off-owner, was-owner, fresh, lone-same}
 use Rattle.rules.proofs.RingLists.{in-none, in-first, in-rest, in-one, in-left, in-right, in-parts, in?, none-of-two, once-append, once-left, once-right, once-apart, leads-append, leads-left, leads-right, leads-carried, Kept, ring-kept}
