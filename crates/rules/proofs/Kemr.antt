@@ -38,12 +38,12 @@ use Rattle.rules.proofs.Led.{Alike, owned-alike}
 use Rattle.rules.proofs.Erase.{some-same, some-none, alone-in, past-on, Gone, halves-apart, erased, turns-left, after-x, after-y, erased-in, erased-in-use, erased-length, erased-count, erased-still, erased-start, erased-owner, erased-first, erased-second, erased-other, lone-put, emptied-is, lone-put-has-in, lone-put-has-out, lone-put-other, lone-put-face, lone-put-true, lone-put-false, lone-put-length, lone-put-count}
 
 -- what an accepted edit says of the half-edge x and its mate y
-record Asked (b : Boundary) (x y l : ℕ) : Type 0 where
-  x-used : Used b x
-  loop-free : Has (b .loops) l → ⊥
-  together : owner b x ≡ owner b y
+pub record Asked (b : Boundary) (x y l : ℕ) : Type 0 where
+  pub x-used : Used b x
+  pub loop-free : Has (b .loops) l → ⊥
+  pub together : owner b x ≡ owner b y
 
-asked : (b : Boundary) (h l : ℕ) → kemr-refusal b h l ≡ None → Asked b h (mate h) l
+pub asked : (b : Boundary) (h l : ℕ) → kemr-refusal b h l ≡ None → Asked b h (mate h) l
 asked b h l q =
     let r = unless-none (half-used b h) Unused _ q in
     let t = unless-none (free (b .loops) l) Taken _ (r .1) in
@@ -55,28 +55,28 @@ asked b h l q =
     }
 
 -- the boundary c has of b what is left without the edge of x and y, with the run from x to y on the loop l
-record Left (b c : Boundary) (x y l : ℕ) : Type 0 where
-  gone : Gone b c x y
-  on-run : (i : ℕ) → Used b i → i ≢ x → i ≢ y → In (run (next b) 384 (next b x) y) i → owner c i ≡ l
-  off-run : (i : ℕ) → Used b i → i ≢ x → i ≢ y → (In (run (next b) 384 (next b x) y) i → ⊥) → owner c i ≡ owner b i
-  loop-l : Has (c .loops) l
-  loop-in : (m : ℕ) → Has (b .loops) m → Has (c .loops) m
-  loop-out : (m : ℕ) → Has (c .loops) m → m ≢ l → Has (b .loops) m
-  new-loop-face : loop-face c l ≡ loop-face b (owner b x)
-  old-loop-face : (m : ℕ) → m ≢ l → loop-face c m ≡ loop-face b m
-  lone-cut : next b x ≡ y → lone c l ≡ Some (start b y)
-  lone-uncut : next b x ≢ y → lone c l ≡ None
-  lone-emptied : next b y ≡ x → lone c (owner b x) ≡ Some (start b x)
-  lone-kept : next b y ≢ x → lone c (owner b x) ≡ lone b (owner b x)
-  lone-other : (m : ℕ) → m ≢ l → m ≢ owner b x → lone c m ≡ lone b m
-  same-faces : c .faces ≡ b .faces
-  same-vertices : c .vertices ≡ b .vertices
-  same-shells : c .shells ≡ b .shells
-  same-handles : c .handles ≡ b .handles
-  edge-count : count (c .edges) + 1 ≡ count (b .edges)
-  loop-count : count (c .loops) ≡ count (b .loops) + 1
-  edge-length : length (c .edges) ≡ length (b .edges)
-  loop-length : length (c .loops) ≡ length (b .loops)
+pub record Left (b c : Boundary) (x y l : ℕ) : Type 0 where
+  pub gone : Gone b c x y
+  pub on-run : (i : ℕ) → Used b i → i ≢ x → i ≢ y → In (run (next b) 384 (next b x) y) i → owner c i ≡ l
+  pub off-run : (i : ℕ) → Used b i → i ≢ x → i ≢ y → (In (run (next b) 384 (next b x) y) i → ⊥) → owner c i ≡ owner b i
+  pub loop-l : Has (c .loops) l
+  pub loop-in : (m : ℕ) → Has (b .loops) m → Has (c .loops) m
+  pub loop-out : (m : ℕ) → Has (c .loops) m → m ≢ l → Has (b .loops) m
+  pub new-loop-face : loop-face c l ≡ loop-face b (owner b x)
+  pub old-loop-face : (m : ℕ) → m ≢ l → loop-face c m ≡ loop-face b m
+  pub lone-cut : next b x ≡ y → lone c l ≡ Some (start b y)
+  pub lone-uncut : next b x ≢ y → lone c l ≡ None
+  pub lone-emptied : next b y ≡ x → lone c (owner b x) ≡ Some (start b x)
+  pub lone-kept : next b y ≢ x → lone c (owner b x) ≡ lone b (owner b x)
+  pub lone-other : (m : ℕ) → m ≢ l → m ≢ owner b x → lone c m ≡ lone b m
+  pub same-faces : c .faces ≡ b .faces
+  pub same-vertices : c .vertices ≡ b .vertices
+  pub same-shells : c .shells ≡ b .shells
+  pub same-handles : c .handles ≡ b .handles
+  pub edge-count : count (c .edges) + 1 ≡ count (b .edges)
+  pub loop-count : count (c .loops) ≡ count (b .loops) + 1
+  pub edge-length : length (c .edges) ≡ length (b .edges)
+  pub loop-length : length (c .loops) ≡ length (b .loops)
 
 -- where a vertex v is lone on the loop m: on the new loop, on the old one, or as it was
 data LoneOn (b : Boundary) (x y l m v : ℕ) : Type 0 where
@@ -115,7 +115,7 @@ module _ (b c : Boundary) (x y l : ℕ) (s : Sound b) (a : Asked b x y l) (d : L
   not-l : (m : ℕ) → Has (b .loops) m → m ≢ l
   not-l m u e = a .loop-free (subst (Has (b .loops)) e u)
 
-  fresh : (i : ℕ) → Used b i → owner b i ≢ l
+  pub fresh : (i : ℕ) → Used b i → owner b i ≢ l
   fresh i u = not-l (owner b i) (s .named .owner-used i u)
 
   after-x-used : Used b (next b x)
@@ -127,14 +127,14 @@ module _ (b c : Boundary) (x y l : ℕ) (s : Sound b) (a : Asked b x y l) (d : L
   after-y-owner : owner b (next b y) ≡ ol
   after-y-owner = old-rings .label y y-used ∙ sym (a .together)
 
-  x-not-self : next b x ≢ x
+  pub x-not-self : next b x ≢ x
   x-not-self = not-self b s x y (a .x-used) y-used x-not-y (a .together)
 
-  y-not-self : next b y ≢ y
+  pub y-not-self : next b y ≢ y
   y-not-self = not-self b s y x y-used (a .x-used) (λ e. x-not-y (sym e)) (sym (a .together))
 
   -- the run from the half-edge after x to just before y
-  met : Met (next b) 384 (next b x) y
+  pub met : Met (next b) 384 (next b x) y
   met = loop-meets b s (next b x) y after-x-used y-used (after-x-owner ∙ a .together)
 
   few : met .steps ≤ 384
@@ -156,13 +156,13 @@ module _ (b c : Boundary) (x y l : ℕ) (s : Sound b) (a : Asked b x y l) (d : L
     | no apart ↦ record { place = o .place; within = omega (arith, o .within); is = o .is }
   ]
 
-  was-owner : (i : ℕ) → On i → owner b i ≡ ol
+  pub was-owner : (i : ℕ) → On i → owner b i ≡ ol
   was-owner i o = ap (owner b) (sym (o .is)) ∙ walk-label old-rings (o .place) (next b x) after-x-used ∙ after-x-owner
 
   on-owner : (i : ℕ) → Used b i → i ≢ x → i ≢ y → On i → owner c i ≡ l
   on-owner i u nx ny o = d .on-run i u nx ny (in-from-on (next b) 384 (next b x) y (met .steps) i (met .first) few o)
 
-  off-owner : (i : ℕ) → Used b i → i ≢ x → i ≢ y → (On i → ⊥) → owner c i ≡ owner b i
+  pub off-owner : (i : ℕ) → Used b i → i ≢ x → i ≢ y → (On i → ⊥) → owner c i ≡ owner b i
   off-owner i u nx ny n = d .off-run i u nx ny (λ m. n (on-from-in (next b) 384 (next b x) y (met .steps) i (met .first) few m))
 
   -- the labels once the ring is split
@@ -201,19 +201,19 @@ module _ (b c : Boundary) (x y l : ℕ) (s : Sound b) (a : Asked b x y l) (d : L
   new-turns = turns-left b c x y s (d .gone)
 
   -- a half-edge that is left
-  was-used : (i : ℕ) → Used c i → Used b i
+  pub was-used : (i : ℕ) → Used c i → Used b i
   was-used i u = d .gone .in-use i u .0
 
-  not-x : (i : ℕ) → Used c i → i ≢ x
+  pub not-x : (i : ℕ) → Used c i → i ≢ x
   not-x i u = d .gone .in-use i u .1
 
-  not-y : (i : ℕ) → Used c i → i ≢ y
+  pub not-y : (i : ℕ) → Used c i → i ≢ y
   not-y i u = d .gone .in-use i u .2
 
   start-was : (i : ℕ) → Used c i → start c i ≡ start b i
   start-was i u = d .gone .old-start i (was-used i u) (not-x i u) (not-y i u)
 
-  owner-was : (i : ℕ) → Used c i → (On i × (owner c i ≡ l)) ⊎ ((On i → ⊥) × (owner c i ≡ owner b i))
+  pub owner-was : (i : ℕ) → Used c i → (On i × (owner c i ≡ l)) ⊎ ((On i → ⊥) × (owner c i ≡ owner b i))
   owner-was i u = elim (on-run? (next b) (next b x) (met .steps) i) [
     | yes o ↦ inl (o, on-owner i (was-used i u) (not-x i u) (not-y i u) o)
     | no n ↦ inr (n, off-owner i (was-used i u) (not-x i u) (not-y i u) n)
@@ -471,7 +471,7 @@ abbrev run-edges : Boundary → ℕ → ℕ → ℕ → List (Option Edge)
 run-edges b x y l = owned-in (b .edges) (run (next b) 384 (next b x) y) l
 
 -- the operator with the change of the loops written out
-abbrev plain : Boundary → ℕ → ℕ → ℕ → Boundary
+abbrev pub plain : Boundary → ℕ → ℕ → ℕ → Boundary
 plain b x y l = record {
   shells = b .shells;
   faces = b .faces;
@@ -481,7 +481,7 @@ plain b x y l = record {
   handles = b .handles;
 }
 
-kemr-is : (b : Boundary) (h l : ℕ) → kemr b h l ≡ plain b h (mate h) l
+pub kemr-is : (b : Boundary) (h l : ℕ) → kemr b h l ≡ plain b h (mate h) l
 kemr-is b h l =
     ap (λ w. clear-edge w (h / 2))
     (emptied-is (back b h (mate h)) (put-loop (led (led (owned b (run (next b) 384 (next b h) (mate h)) l) (mate h) (next b h)) h (next b (mate h))) l (new-loop b h)) (owner b h) (start b h))
@@ -557,7 +557,7 @@ module _ (b : Boundary) (h l : ℕ) (s : Sound b) (a : Asked b h (mate h) l) (ll
     | inr v ↦ v
   ]
 
-  is-left : Left b (plain b h y l) h y l
+  pub is-left : Left b (plain b h y l) h y l
   is-left = record {
     gone = is-gone;
     on-run = λ i u nx ny o. erased-owner (b .edges) es₁ y (next b h) h (next b y) h alike i u nx ny ∙ owned-hit (b .edges) (run (next b) 384 (next b h) y) l i u o;

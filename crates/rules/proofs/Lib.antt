@@ -44,3 +44,4 @@ pub mod BesideLaws
 pub mod UndoKemr
 pub mod Undone
 pub mod RingLaws
+pub mod KemrLaw
