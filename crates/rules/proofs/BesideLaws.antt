@@ -55,7 +55,7 @@ either-loops false x y ls p q = q
 pub kfmrh-law : (b : Boundary) (f g : ℕ) → KfmrhLaw b f g
 kfmrh-law b f g = record {
   others = beside b (kfmrh b f g) [] (either-edges (eqb (face-shell b f) (face-shell b g)) _ _ (b .edges) refl refl)
-  (λ m off. ap (λ t. lone-of (row t m)) (either-loops (eqb (face-shell b f) (face-shell b g)) _ _ _ refl refl) ∙ inner-lone (b .loops) g f m);
+      (λ m off. ap (λ t. lone-of (row t m)) (either-loops (eqb (face-shell b f) (face-shell b g)) _ _ _ refl refl) ∙ inner-lone (b .loops) g f m);
 }
 
 pub move-law : (b : Boundary) (v : ℕ) (p : Point) → Sound b → v < 128 → MoveLaw b v p

@@ -515,6 +515,14 @@ impl Solid {
     }
 
     // One vertex row is lent and changed; all other rows stay.
+    fn move_to(&mut self, vertex: u16, at: Point)
+        requires { ⌜ vertex < 128 ⌝ }
+        ensures { λ _. ⌜ now (self .exit) .boundary ≡ move (now (self .entry) .boundary) vertex at ⌝ }
+    {
+        let lent = &mut self.boundary.vertices[vertex as usize];
+        *lent = Some(at);
+    }
+
     pub(crate) fn move_vertex(&mut self, vertex: u16, at: Point) -> Result<(), Refusal>
         requires { ⌜ vertex < 128 ⌝ }
         ensures { λ r. ⌜ Decided (move-refusal (now (self .entry) .boundary) vertex) (now (self .entry) .boundary) (move (now (self .entry) .boundary) vertex at) r (now (self .exit) .boundary) ⌝ }
@@ -522,8 +530,7 @@ impl Solid {
         if !used(&self.boundary.vertices, vertex) {
             return Err(Refusal::Unused);
         }
-        let lent = &mut self.boundary.vertices[vertex as usize];
-        *lent = Some(at);
+        self.move_to(vertex, at);
         Ok(())
     }
 }

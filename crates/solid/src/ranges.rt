@@ -80,5 +80,9 @@ pub(crate) fn in_range(edit: Edit) -> bool
 pub(crate) fn named(field: i32) -> u16
     ensures { λ r. ⌜ r ≡ named field ⌝ }
 {
-    u16::try_from(field).unwrap_or(0)
+    if 0 <= field && field < 65536 {
+        field as u16
+    } else {
+        0
+    }
 }
