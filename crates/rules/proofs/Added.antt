@@ -1,8 +1,8 @@
 -- Two elements come into use at once: how the table still makes rings, by way of the table with the second of them alone.
 use mathlib.Core.Path.{_≡_, refl, sym, ap, subst, _∙_}
 use mathlib.Core.Logic.{_≢_, _⊎_, inl, inr}
-use Prim.Native.Nat.{ℕ, zero, suc}
-use Rattle.rings.specs.Rings.{walk, Rings}
+use Prim.Native.Nat.{ℕ}
+use Rattle.rings.specs.Rings.{Rings}
 use Rattle.rings.specs.Euler.{put}
 use Rattle.rings.proofs.Put.{put-same, put-other}
 use Rattle.rings.proofs.Single.{start-keeps, insert-keeps}
@@ -146,13 +146,3 @@ module _ {used used′ : ℕ → Type 0} {lab lab′ : ℕ → ℕ} {x y : ℕ} 
           ];
           other-label = labels (lab′ y) refl;
         })
-
--- an element that the step leads to itself is the only one with its label
-pub alone-is : {f : ℕ → ℕ} {used : ℕ → Type 0} {lab : ℕ → ℕ} → Rings f used lab → (x h : ℕ) → used x → used h → f x ≡ x → lab h ≡ lab x → h ≡ x
-alone-is {f} r x h u v e l =
-    let way = r .one-ring x h u v (sym l) in
-    sym (way .arrives) ∙ stuck (way .steps)
-  where
-    stuck : (n : ℕ) → walk f n x ≡ x
-    stuck zero = refl
-    stuck (suc n) = ap f (stuck n) ∙ e

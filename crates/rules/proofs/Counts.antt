@@ -1,15 +1,14 @@
 -- How many rows a table has after a change, and what it means that just one row lies in k.
 use mathlib.Core.Path.{_≡_, refl, sym, ap, subst, _∙_}
-use mathlib.Core.Logic.{_≢_}
 use mathlib.Core.Bool.{Bool, true, false, cond}
 use mathlib.Core.List.{List, [], _∷_, map}
 use Prim.Native.Nat.{ℕ, zero, suc, _+_, _<_, _≤_}
 use native.Mathlib.Decide.{ℕ-discrete, decLt}
 use native.Mathlib.Omega.{arith}
-use lib.Dec.{T, eqb}
+use lib.Dec.{T}
 use lib.ListN.{length, set, replicate}
 use Rattle.std.specs.Options.{isSome, mapped}
-use Rattle.std.specs.shelf.Lists.{countBy, sumBy}
+use Rattle.std.specs.shelf.Lists.{countBy}
 use Rattle.std.specs.declared.option.Option.{Option}
 use Rattle.std.specs.declared.option.Option.the-variants.{None, Some}
 use Rattle.std.proofs.shelf.Lists.{set-past}
@@ -17,7 +16,7 @@ use Rattle.std.proofs.shelf.Sums.{sumBy-cons, sumBy-set, getD-le-sumBy, countBy
 use Rattle.std.proofs.shelf.Tests.{eq-eqb, eqb-true}
 use Rattle.boundary.specs.declared.Boundary.{Boundary}
 use Rattle.boundary.specs.Operators.{one-more}
-use Rattle.boundary.specs.Tables.{row, used, count, in-row, parts, first-part}
+use Rattle.boundary.specs.Tables.{row, count, in-row, parts, first-part}
 use Rattle.rules.specs.Rules.{Has, Sizes, Balanced}
 use Rattle.rules.proofs.Rows.{has-below, has-row, no-row, row-has, row-put-other, length-put}
 
@@ -111,12 +110,6 @@ module _ {X : Type 0} where
 
   pub one-part-first : (w : X → ℕ) (t : List (Option X)) (k : ℕ) → parts w t k ≡ 1 → (x : X) × (row t (first-part w t k) ≡ Some x) × (w x ≡ k)
   one-part-first w t k one = first-part-in w t k (omega (arith, one))
-
-  -- the one row that lies in k is the first part
-  pub one-part-is : (w : X → ℕ) (t : List (Option X)) (k i : ℕ) (x : X) → parts w t k ≡ 1 → row t i ≡ Some x → w x ≡ k → i ≡ first-part w t k
-  one-part-is w t k i x one ri wi =
-      let f = one-part-first w t k one in
-      one-part w t k i (first-part w t k) x (f .0) one ri wi (f .1) (f .2)
 
 -- a table of unused rows counts none
 pub count-none : (X : Type 0) (n : ℕ) → count (replicate {A = Option X} n None) ≡ 0

@@ -3,8 +3,7 @@ use mathlib.Core.Path.{_≡_, refl, sym, ap, subst, _∙_}
 use mathlib.Core.Logic.{_≢_, _⊎_, inl, inr, ite, if-pos, if-neg}
 use Prim.Native.Nat.{ℕ}
 use native.Mathlib.Decide.{ℕ-discrete}
-use lib.Dec.{T}
-use Rattle.std.specs.Options.{isSome, valueOr}
+use Rattle.std.specs.Options.{valueOr}
 use Rattle.std.specs.declared.option.Option.{Option}
 use Rattle.std.specs.declared.option.Option.the-variants.{None, Some}
 use Rattle.rings.specs.Rings.{Rings}
@@ -13,16 +12,11 @@ use Rattle.rings.specs.Euler.{put}
 use Rattle.rings.proofs.Facts.{before, injective}
 use Rattle.rings.proofs.Single.{insert-keeps, start-keeps}
 use Rattle.rings.proofs.Put.{put-same, put-other}
+use Rattle.rules.proofs.Rows.{none-not-some, some-same}
 
 -- targets
-pub none-some : {t : Option ℕ} {a : ℕ} → t ≡ None → t ≡ Some a → ⊥
-none-some d e = subst (λ o. T (isSome o)) (sym e ∙ d) tt
-
-pub some-same : {t : Option ℕ} {a c : ℕ} → t ≡ Some a → t ≡ Some c → a ≡ c
-some-same d e = ap (λ o. valueOr o 0) (sym d ∙ e)
-
 pub target? : (t : Option ℕ) (n : ℕ) → Dec (t ≡ Some n)
-target? None n = no (λ e. none-some refl e)
+target? None n = no (λ e. none-not-some refl e)
 target? (Some a) n = elim (ℕ-discrete a n) [ yes e ↦ yes (ap Some e) | no ne ↦ no (λ e. ne (some-same refl e)) ]
 
 -- x comes in just before the target on the ring l, or starts the ring l
@@ -55,7 +49,7 @@ module _ {f f′ : ℕ → ℕ} {used used′ : ℕ → Type 0} {lab lab′ : �
   starts : t ≡ None → Started f f′ used used′ lab lab′ x
   starts e = record {
     x-step = c .x-step ∙ ap (λ o. valueOr o x) e;
-    other-step = λ h u. c .other-step h u (none-some e);
+    other-step = λ h u. c .other-step h u (none-not-some e);
     in-use = c .in-use;
     x-in-use = c .x-in-use;
     still-in-use = c .still-in-use;
@@ -84,7 +78,7 @@ enter-x f (Some a) x = put-same (λ h. ite (ℕ-discrete (f h) a) x (f h)) x a
 
 enter-led : (f : ℕ → ℕ) (t : Option ℕ) (x h : ℕ) → h ≢ x → t ≡ Some (f h) → enter f t x h ≡ x
 unfolding enter
-enter-led f None x h ne e = absurd (none-some refl e)
+enter-led f None x h ne e = absurd (none-not-some refl e)
 enter-led f (Some a) x h ne e = put-other (λ i. ite (ℕ-discrete (f i) a) x (f i)) x a h ne ∙ if-pos (ℕ-discrete (f h) a) (some-same e refl) x (f h)
 
 enter-other : (f : ℕ → ℕ) (t : Option ℕ) (x h : ℕ) → h ≢ x → t ≢ Some (f h) → enter f t x h ≡ f h

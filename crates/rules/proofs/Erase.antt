@@ -1,13 +1,12 @@
 -- An edge with the halves x and y is erased: what a step past both leads to, the rings round the vertices, and the tables of edges and loops.
 use mathlib.Core.Path.{_≡_, refl, sym, ap, subst, _∙_}
-use mathlib.Core.Logic.{_≢_, _⊎_, inl, inr}
+use mathlib.Core.Logic.{_≢_}
 use mathlib.Core.Bool.{Bool, true, false, cond}
 use mathlib.Core.List.{List}
-use Prim.Native.Nat.{ℕ, zero, suc, _+_, _/_}
+use Prim.Native.Nat.{ℕ, _+_, _/_}
 use native.Mathlib.Decide.{ℕ-discrete}
 use lib.Dec.{T, eqb}
 use lib.ListN.{length, set}
-use Rattle.std.specs.Options.{isSome, valueOr}
 use Rattle.std.specs.declared.option.Option.{Option}
 use Rattle.std.specs.declared.option.Option.the-variants.{None, Some}
 use Rattle.std.proofs.shelf.Tests.{eq-eqb, ne-eqb, cond-true, cond-false}
@@ -17,7 +16,7 @@ use Rattle.boundary.specs.declared.Boundary.{Boundary}
 use Rattle.boundary.specs.Tables.{row, count, half-in, start, next, owner, mate, lone-of, face-of}
 use Rattle.boundary.specs.Changes.{with-loops, emptied}
 use Rattle.boundary.specs.Operators.{past}
-use Rattle.rings.specs.Rings.{walk, Rings, Reaches}
+use Rattle.rings.specs.Rings.{Rings}
 use Rattle.rings.specs.Changes.{Swapped}
 use Rattle.rings.specs.Euler.{Erased, swap, skip}
 use Rattle.rings.proofs.Facts.{injective}
@@ -29,32 +28,6 @@ use Rattle.rules.proofs.Counts.{count-put-used, count-clear}
 use Rattle.rules.proofs.Halves.{mate-apart, other-edge, half-put-other, clear-mates-in, clear-mates-out}
 use Rattle.rules.proofs.Views.{paired, loop-rings, vertex-rings}
 use Rattle.rules.proofs.Led.{Alike, led-twice, twice-has-in, twice-has-out, twice-length, twice-count, twice-start, twice-owner, twice-first, twice-second, twice-other}
-
--- a lone vertex is one, and the one it is
-pub some-same : (u v : ℕ) → _≡_ {A = Option ℕ} (Some u) (Some v) → u ≡ v
-some-same u v e = ap (λ o. valueOr o 0) e
-
-pub some-none : (v : ℕ) → _≡_ {A = Option ℕ} (Some v) None → ⊥
-some-none v e = subst (λ r. T (isSome r)) e tt
-
--- a walk stays in what each step stays in
-reach-in : {f : ℕ → ℕ} (P : ℕ → Type 0) → ((i : ℕ) → P i → P (f i)) → (h k : ℕ) → P h → Reaches f h k → P k
-reach-in {f} P step h k start r = subst P (r .arrives) (go (r .steps))
-  where
-    go : (n : ℕ) → P (walk f n h)
-    go zero = start
-    go (suc n) = step (walk f n h) (go n)
-
--- a ring of one element, and of two
-pub alone-in : {f : ℕ → ℕ} {used : ℕ → Type 0} {lab : ℕ → ℕ} → Rings f used lab → (x z : ℕ) → used x → used z → f x ≡ x → lab z ≡ lab x → z ≡ x
-alone-in {f} r x z u v e q = reach-in (λ i. i ≡ x) (λ i p. ap f p ∙ e) x z refl (r .one-ring x z u v (sym q))
-
-pub pair-in : {f : ℕ → ℕ} {used : ℕ → Type 0} {lab : ℕ → ℕ} → Rings f used lab → (x y z : ℕ) → used x → used z → f x ≡ y → f y ≡ x → lab z ≡ lab x → (z ≡ x) ⊎ (z ≡ y)
-pair-in {f} r x y z u v p q e = reach-in (λ i. (i ≡ x) ⊎ (i ≡ y)) step x z (inl refl) (r .one-ring x z u v (sym e))
-  where
-    step : (i : ℕ) → (i ≡ x) ⊎ (i ≡ y) → (f i ≡ x) ⊎ (f i ≡ y)
-    step i (inl t) = inr (ap f t ∙ p)
-    step i (inr t) = inl (ap f t ∙ q)
 
 -- where a step leads that passes both x and y, once they have exchanged what follows them
 module _ {f : ℕ → ℕ} {used : ℕ → Type 0} {lab : ℕ → ℕ} (r : Rings f used lab) (x y : ℕ) (ux : used x) (uy : used y) (apart : x ≢ y) where

@@ -1,11 +1,10 @@
 -- What loops and faces say after a change, and the one loop of a face or the one face of a shell.
-use mathlib.Core.Path.{_≡_, refl, sym, ap, subst, _∙_}
+use mathlib.Core.Path.{_≡_, refl, sym, ap, _∙_}
 use mathlib.Core.Logic.{_≢_}
 use mathlib.Core.Bool.{cond}
 use mathlib.Core.List.{List, map}
-use Prim.Native.Nat.{ℕ, _<_}
+use Prim.Native.Nat.{ℕ}
 use lib.Dec.{T, eqb}
-use lib.ListN.{length, set}
 use Rattle.std.specs.Options.{isSome, mapped}
 use Rattle.std.specs.declared.option.Option.{Option}
 use Rattle.std.specs.declared.option.Option.the-variants.{None, Some}
@@ -13,10 +12,10 @@ use Rattle.std.proofs.shelf.Tests.{eq-eqb, ne-eqb, cond-true, cond-false}
 use Rattle.boundary.specs.declared.Loop.{Loop}
 use Rattle.boundary.specs.declared.Face.{Face}
 use Rattle.boundary.specs.declared.Boundary.{Boundary}
-use Rattle.boundary.specs.Tables.{row, lone, lone-of, face-of, shell-of, outer-of, loop-face, face-shell, faces-in, loops-in, in-face, in-shell}
+use Rattle.boundary.specs.Tables.{row, lone-of, face-of, shell-of, outer-of, loop-face, face-shell, faces-in, loops-in, in-face, in-shell}
 use Rattle.boundary.specs.Changes.{inner-loop, merged-face}
 use Rattle.boundary.specs.Operators.{face-in}
-use Rattle.rules.specs.Rules.{Has, Named, Outer}
+use Rattle.rules.specs.Rules.{Has}
 use Rattle.rules.proofs.Rows.{has-row, row-has, row-map}
 use Rattle.rules.proofs.Counts.{one-part, one-part-first}
 
@@ -70,10 +69,6 @@ one-loop-in b f l m one u p v q =
     let x = has-row (b .loops) l u in
     let y = has-row (b .loops) m v in
     one-part in-face (b .loops) f l m (x .0) (y .0) one (x .1) (sym (ap face-of (x .1)) ∙ p) (y .1) (sym (ap face-of (y .1)) ∙ q)
-
--- and it is the outer one
-pub one-loop-outer : (b : Boundary) → Named b → Outer b → (f l : ℕ) → loops-in b f ≡ 1 → Has (b .faces) f → Has (b .loops) l → loop-face b l ≡ f → l ≡ outer-of (row (b .faces) f)
-one-loop-outer b n o f l one w u p = one-loop-in b f l (outer-of (row (b .faces) f)) one u p (n .outer-used f w) (o .lies-in f w)
 
 -- of a shell with one face, each face in it is that one
 pub one-face-in : (b : Boundary) (s f g : ℕ) → faces-in b s ≡ 1 → Has (b .faces) f → face-shell b f ≡ s → Has (b .faces) g → face-shell b g ≡ s → f ≡ g

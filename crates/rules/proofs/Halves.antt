@@ -2,25 +2,24 @@
 use mathlib.Core.Path.{_≡_, refl, sym, ap, subst, _∙_}
 use mathlib.Core.Logic.{_≢_, _⊎_, inl, inr}
 use mathlib.Core.Bool.{Bool, true, false, cond}
-use mathlib.Core.List.{List, [], _∷_, map}
-use Prim.Native.Nat.{ℕ, zero, suc, _+_, _*_, _-_, _/_, _%_, _<_, _≤_}
+use mathlib.Core.List.{List, [], _∷_}
+use Prim.Native.Nat.{ℕ, zero, suc, _+_, _*_, _-_, _/_, _%_, _<_}
 use native.Mathlib.Decide.{ℕ-discrete}
 use native.Mathlib.Omega.{arith}
 use lib.Dec.{T, eqb}
-use lib.ListN.{length, set, getD}
+use lib.ListN.{length, set}
 use Rattle.std.specs.Options.{isSome, mapped}
 use Rattle.std.specs.shelf.Lists.{Has as In}
 use Rattle.std.specs.declared.option.Option.{Option}
 use Rattle.std.specs.declared.option.Option.the-variants.{None, Some}
-use Rattle.std.proofs.shelf.Tests.{eqb-true, eqb-false, eq-eqb, ne-eqb, cond-true, cond-false}
-use Rattle.boundary.specs.declared.HalfEdge.{HalfEdge}
+use Rattle.std.proofs.shelf.Tests.{eq-eqb, ne-eqb, cond-true, cond-false}
 use Rattle.boundary.specs.declared.Edge.{Edge}
 use Rattle.boundary.specs.declared.Boundary.{Boundary}
-use Rattle.boundary.specs.Tables.{row, used, side, even, half-in, next-in, mate, half-used}
+use Rattle.boundary.specs.Tables.{row, used, side, even, half-in, mate}
 use Rattle.boundary.specs.Changes.{led-half, led-edge, led-in, owned-side, owned-one, owned-in, joined-half, joined-edge, joined-in}
 use Rattle.boundary.proofs.Rows.{row-set, next-owned}
 use Rattle.rules.specs.Rules.{Has, Used}
-use Rattle.rules.proofs.Rows.{has-below, has-row, row-put-same, row-put-other, length-put, has-put-same, has-put-other-in, has-put-cases, has-clear-in, has-clear-out, row-map}
+use Rattle.rules.proofs.Rows.{has-below, row-put-same, row-put-other, length-put, has-put-same, has-put-other-in, has-put-cases, has-clear-in, has-clear-out, row-map}
 
 -- the two halves of an edge, by number
 pub half-of-even : (k : ℕ) → 2 * k / 2 ≡ k
@@ -137,12 +136,6 @@ put-used-cases es k h e u = elim (has-put-cases es k (h / 2) e u) [
 ]
 
 -- the edge k is cleared
-pub clear-used-in : (es : List (Option Edge)) (k h : ℕ) → h / 2 ≢ k → Has es (h / 2) → Has (set es k None) (h / 2)
-clear-used-in es k h ne u = has-clear-in es k (h / 2) ne u
-
-pub clear-used-out : (es : List (Option Edge)) (k h : ℕ) → Has (set es k None) (h / 2) → Has es (h / 2) × (h / 2 ≢ k)
-clear-used-out es k h u = has-clear-out es k (h / 2) u
-
 -- the edge of x is cleared, in terms of x and its mate
 pub clear-mates-in : (es : List (Option Edge)) (x h : ℕ) → h ≢ x → h ≢ mate x → Has es (h / 2) → Has (set es (x / 2) None) (h / 2)
 clear-mates-in es x h n m u = has-clear-in es (x / 2) (h / 2) (other-edge h x n m) u

@@ -1,5 +1,5 @@
 -- Every accepted edit keeps the rules, and so does every list of edits from the empty boundary on.
-use mathlib.Core.Path.{_≡_, refl, sym, ap, subst, _∙_}
+use mathlib.Core.Path.{_≡_, refl, sym, subst, _∙_}
 use mathlib.Core.Bool.{Bool, true, false, cond}
 use mathlib.Core.List.{List, [], _∷_}
 use Prim.Native.Nat.{ℕ, _+_, _<_}
@@ -18,7 +18,7 @@ use Rattle.boundary.specs.Refusals.{in-range, is-shell, is-face, is-loop, is-ed
 use Rattle.boundary.specs.Tables.{face-shell, is-half-place}
 use Rattle.rules.specs.Rules.{Sound}
 use Rattle.rules.specs.Histories.{after-all, handles-of, new-handles, handles-made, unless-refused, StaysSound}
-use Rattle.rules.proofs.Accepted.{accepted, after-accepted, below-named, place-named}
+use Rattle.rules.proofs.Accepted.{accepted, below-named, place-named}
 use Rattle.rules.proofs.Counts.{one-more-is}
 use Rattle.rules.proofs.Nothing.{empty-sound}
 use Rattle.rules.proofs.Move.{move-keeps}

@@ -10,7 +10,7 @@ use lib.Dec.{eqb}
 use lib.ListN.{length, set}
 use Rattle.std.specs.declared.option.Option.{Option}
 use Rattle.std.specs.declared.option.Option.the-variants.{None, Some}
-use Rattle.std.proofs.shelf.Tests.{eqb-true, eq-eqb, ne-eqb, cond-true, cond-false, and-from, and-left, and-right}
+use Rattle.std.proofs.shelf.Tests.{eqb-true, eq-eqb, ne-eqb, cond-true, cond-false, and-from, and-left, and-right, and-parts}
 use Rattle.boundary.specs.declared.Edge.{Edge}
 use Rattle.boundary.specs.declared.Loop.{Loop}
 use Rattle.boundary.specs.declared.Boundary.{Boundary}
@@ -22,17 +22,17 @@ use Rattle.boundary.specs.Refusals.{kef-refusal}
 use Rattle.rings.specs.Rings.{Rings}
 use Rattle.rings.specs.Changes.{Joined}
 use Rattle.rings.specs.Euler.{swap}
-use Rattle.rings.proofs.Facts.{injective}
+use Rattle.rings.proofs.Facts.{injective, alone-in, pair-in}
 use Rattle.rings.proofs.Put.{swapped-by-put}
 use Rattle.rings.proofs.Euler.{loops-joined}
 use Rattle.rules.specs.Rules.{Has, Used, turn, Sizes, Named, LoneVertices, Outer, OneShell, Balanced, Sound}
-use Rattle.rules.proofs.Rows.{true-T, and-true, not-eqb, unless-none, row-put-other, length-put, has-clear-in, has-clear-out, lone-has}
+use Rattle.rules.proofs.Rows.{true-T, not-eqb, unless-none, row-put-other, length-put, has-clear-in, has-clear-out, lone-has, none-not-some, some-same}
 use Rattle.rules.proofs.Counts.{count-clear}
 use Rattle.rules.proofs.Fields.{one-loop-in}
 use Rattle.rules.proofs.Halves.{mate-mate, mate-apart, used-mate, joined-owner}
 use Rattle.rules.proofs.Views.{loop-rings, vertex-rings, loop-rings-by, vertex-rings-by, continues-by, next-used-by}
 use Rattle.rules.proofs.Led.{Alike, joined-alike}
-use Rattle.rules.proofs.Erase.{some-same, some-none, alone-in, pair-in, past-on, past-over, Gone, halves-apart, erased, turns-left, after-x, after-y, erased-in, erased-in-use, erased-length, erased-count, erased-still, erased-start, erased-owner, erased-first, erased-second, erased-other, lone-put, emptied-is, lone-put-has-in, lone-put-has-out, lone-put-other, lone-put-face, lone-put-true, lone-put-false, lone-put-length, lone-put-count}
+use Rattle.rules.proofs.Erase.{past-on, past-over, Gone, halves-apart, erased, turns-left, after-x, after-y, erased-in, erased-in-use, erased-length, erased-count, erased-still, erased-start, erased-owner, erased-first, erased-second, erased-other, lone-put, emptied-is, lone-put-has-in, lone-put-has-out, lone-put-other, lone-put-face, lone-put-true, lone-put-false, lone-put-length, lone-put-count}
 
 -- what an accepted edit says of the half-edge x and its mate y
 pub record Asked (b : Boundary) (x y : ℕ) : Type 0 where
@@ -44,7 +44,7 @@ pub asked : (b : Boundary) (h : ℕ) → kef-refusal b h ≡ None → Asked b h 
 asked b h q =
     let r = unless-none (half-used b h) Unused _ q in
     let t = unless-none (not (eqb (owner b h) (owner b (mate h))) && eqb (loops-in b (loop-face b (owner b h))) 1) Condition None (r .1) in
-    let both = and-true (not (eqb (owner b h) (owner b (mate h)))) (eqb (loops-in b (loop-face b (owner b h))) 1) (t .0) in
+    let both = and-parts (not (eqb (owner b h) (owner b (mate h)))) (eqb (loops-in b (loop-face b (owner b h))) 1) (t .0) in
     record {
       x-used = true-T (half-used b h) (r .0);
       apart = not-eqb (owner b h) (owner b (mate h)) (both .0);
@@ -186,7 +186,7 @@ module _ (b c : Boundary) (x y : ℕ) (s : Sound b) (a : Asked b x y) (d : Left 
     elim (ℕ-discrete m ly) [
       | no ne ↦ inl (sym (d .lone-other m left ne) ∙ e)
       | yes q ↦ elim (alone? b x y) [
-        | yes al ↦ inr (al, q, sym (some-same (start b x) v (sym (d .lone-alone al) ∙ ap (lone c) (sym q) ∙ e)))
+        | yes al ↦ inr (al, q, some-same (ap (lone c) (sym q) ∙ e) (d .lone-alone al))
         | no n ↦ inl (ap (lone b) q ∙ sym (d .lone-else n) ∙ ap (lone c) (sym q) ∙ e)
       ]
     ],
@@ -327,7 +327,7 @@ module _ (b c : Boundary) (x y : ℕ) (s : Sound b) (a : Asked b x y) (d : Left 
     else-half-edge = λ m u e. let o = d .loop-out m u in elim (ℕ-discrete m ly) [
       | no ne ↦ half-on m (o .1) ne (s .lone .else-half-edge m (o .0) (sym (d .lone-other m (o .1) ne) ∙ e))
       | yes q ↦
-          let z = half-on-ly (λ al. some-none (start b x) (sym (d .lone-alone al) ∙ ap (lone c) (sym q) ∙ e)) in
+          let z = half-on-ly (λ al. none-not-some (ap (lone c) (sym q) ∙ e) (d .lone-alone al)) in
           (z .0, z .1, z .2 ∙ sym q)
     ];
     start-or-lone = λ v u. elim (s .lone .start-or-lone v (subst (λ t. Has t v) (d .same-vertices) u)) [

@@ -23,19 +23,19 @@ use Rattle.boundary.specs.Refusals.{free, kemr-refusal}
 use Rattle.rings.specs.Rings.{walk, Rings, OnRun}
 use Rattle.rings.specs.Changes.{Split}
 use Rattle.rings.specs.Euler.{swap}
-use Rattle.rings.proofs.Facts.{walk-used, walk-label, injective}
+use Rattle.rings.proofs.Facts.{walk-used, walk-label, injective, alone-in}
 use Rattle.rings.proofs.Walks.{walk-first, on-run?}
 use Rattle.rings.proofs.Round.{cycle-covers}
 use Rattle.rings.proofs.Put.{swapped-by-put}
 use Rattle.rings.proofs.Euler.{loops-split}
 use Rattle.rules.specs.Rules.{Has, Used, turn, Sizes, Named, LoneVertices, Outer, OneShell, Balanced, Sound}
-use Rattle.rules.proofs.Rows.{true-T, unless-none, free-not-has, row-put-same, row-put-other, length-put, has-put-same, has-put-other-in, has-put-cases, lone-has}
+use Rattle.rules.proofs.Rows.{true-T, unless-none, free-not-has, row-put-same, row-put-other, length-put, has-put-same, has-put-other-in, has-put-cases, lone-has, none-not-some, some-same}
 use Rattle.rules.proofs.Counts.{count-put-free}
 use Rattle.rules.proofs.Halves.{mate-mate, mate-apart, used-mate, owned-hit, owned-miss}
 use Rattle.rules.proofs.Views.{loop-rings, vertex-rings, loop-rings-by, vertex-rings-by, continues-by, next-used-by}
 use Rattle.rules.proofs.Runs.{Met, loop-meets, in-from-on, on-from-in}
 use Rattle.rules.proofs.Led.{Alike, owned-alike}
-use Rattle.rules.proofs.Erase.{some-same, some-none, alone-in, past-on, Gone, halves-apart, erased, turns-left, after-x, after-y, erased-in, erased-in-use, erased-length, erased-count, erased-still, erased-start, erased-owner, erased-first, erased-second, erased-other, lone-put, emptied-is, lone-put-has-in, lone-put-has-out, lone-put-other, lone-put-face, lone-put-true, lone-put-false, lone-put-length, lone-put-count}
+use Rattle.rules.proofs.Erase.{past-on, Gone, halves-apart, erased, turns-left, after-x, after-y, erased-in, erased-in-use, erased-length, erased-count, erased-still, erased-start, erased-owner, erased-first, erased-second, erased-other, lone-put, emptied-is, lone-put-has-in, lone-put-has-out, lone-put-other, lone-put-face, lone-put-true, lone-put-false, lone-put-length, lone-put-count}
 
 -- what an accepted edit says of the half-edge x and its mate y
 pub record Asked (b : Boundary) (x y l : ℕ) : Type 0 where
@@ -259,13 +259,13 @@ module _ (b c : Boundary) (x y l : ℕ) (s : Sound b) (a : Asked b x y l) (d : L
   lone-was : (m v : ℕ) → lone c m ≡ Some v → LoneOn b x y l m v
   lone-was m v e = elim (ℕ-discrete m l) [
     | yes q ↦ elim (ℕ-discrete (next b x) y) [
-      | yes t ↦ cut q t (sym (some-same (start b y) v (sym (d .lone-cut t) ∙ ap (lone c) (sym q) ∙ e)))
-      | no n ↦ absurd (some-none v (sym e ∙ ap (lone c) q ∙ d .lone-uncut n))
+      | yes t ↦ cut q t (some-same (ap (lone c) (sym q) ∙ e) (d .lone-cut t))
+      | no n ↦ absurd (none-not-some (ap (lone c) q ∙ d .lone-uncut n) e)
     ]
     | no ne ↦ elim (ℕ-discrete m ol) [
       | no other ↦ old ne (sym (d .lone-other m ne other) ∙ e)
       | yes q ↦ elim (ℕ-discrete (next b y) x) [
-        | yes t ↦ rest q t (sym (some-same (start b x) v (sym (d .lone-emptied t) ∙ ap (lone c) (sym q) ∙ e)))
+        | yes t ↦ rest q t (some-same (ap (lone c) (sym q) ∙ e) (d .lone-emptied t))
         | no n ↦ old ne (ap (lone b) q ∙ sym (d .lone-kept n) ∙ ap (lone c) (sym q) ∙ e)
       ]
     ]
@@ -388,13 +388,13 @@ module _ (b c : Boundary) (x y l : ℕ) (s : Sound b) (a : Asked b x y l) (d : L
   half-on-l e = (next b x, x-on ne, on-owner (next b x) after-x-used x-not-self ne (after-x-on ne))
     where
       ne : next b x ≢ y
-      ne t = some-none (start b y) (sym (d .lone-cut t) ∙ e)
+      ne t = none-not-some e (d .lone-cut t)
 
   half-on-ol : lone c ol ≡ None → (z : ℕ) × Used c z × (owner c z ≡ ol)
   half-on-ol e = (next b y, y-on ne, off-owner (next b y) (s .named .next-used y y-used) ne y-not-self after-y-off ∙ after-y-owner)
     where
       ne : next b y ≢ x
-      ne t = some-none (start b x) (sym (d .lone-emptied t) ∙ e)
+      ne t = none-not-some e (d .lone-emptied t)
 
   half-on-other : (m : ℕ) → m ≢ ol → ((z : ℕ) × Used b z × (owner b z ≡ m)) → (z : ℕ) × Used c z × (owner c z ≡ m)
   half-on-other m ne o =

@@ -254,11 +254,11 @@ module _ (b : Boundary) (h : ℕ) (s : Sound b) (h-used : Used b h) (e : next b 
       | no ne ↦ ap face-of (row-other m ne)
     ];
     lone-cases = λ m u a. elim (ℕ-discrete m l) [
-      | yes q ↦ inr (q, some-same (lone-of (row (lone-loops b h) m)) u (start b h) a (lone-here m q), e)
+      | yes q ↦ inr (q, some-same a (lone-here m q), e)
       | no ne ↦ inl (sym (ap lone-of (row-other m ne)) ∙ a)
     ];
     lone-none = λ m a. elim (ℕ-discrete m l) [
-      | yes q ↦ absurd (none-not-some (lone-of (row (lone-loops b h) m)) (start b h) a (lone-here m q))
+      | yes q ↦ absurd (none-not-some a (lone-here m q))
       | no ne ↦ (sym (ap lone-of (row-other m ne)) ∙ a, λ q. absurd (ne q))
     ];
     lone-still = λ m u a. ap lone-of (row-other m (λ q. s .lone .lone-alone m u h a h-used (sym q))) ∙ a;

@@ -19,7 +19,7 @@ use Rattle.rules.proofs.Rows.{has-map-in, has-map-out, length-put, length-mapp
 use Rattle.rules.proofs.Counts.{count-clear, count-map}
 use Rattle.rules.proofs.Halves.{mate-mate, mate-same, mate-apart, used-mate, other-edge, half-put-other, clear-mates-in, clear-mates-out, led-start, led-owner, led-hit, led-miss}
 use Rattle.rules.proofs.Views.{loop-rings, vertex-rings}
-use Rattle.rules.proofs.Added.{alone-is}
+use Rattle.rings.proofs.Facts.{alone-in}
 
 -- the edges that are left
 abbrev pub kev-edges : Boundary → ℕ → List (Option Edge)
@@ -125,7 +125,7 @@ module _ (b : Boundary) (h : ℕ) (s : Sound b) (h-used : Used b h) (to-mate : n
 
   -- no other half-edge starts where the mate does
   pub only-mate : (j : ℕ) → Used b j → start b j ≡ start b (mate h) → j ≡ mate h
-  only-mate j u e = alone-is (vertex-rings b s) (mate h) j mate-used-too u turn-mate e
+  only-mate j u e = alone-in (vertex-rings b s) (mate h) j mate-used-too u turn-mate e
 
   -- the loop of h and its mate is one
   pub same-loop : owner b (mate h) ≡ owner b h
@@ -135,12 +135,12 @@ module _ (b : Boundary) (h : ℕ) (s : Sound b) (h-used : Used b h) (to-mate : n
   pub none-on-loop : next b (mate h) ≡ h → (j : ℕ) → Now j → half-in es j .owner ≢ owner b h
   none-on-loop e j u q =
       let m = left-out j u in
-      m .1 (alone-is past-mate h j (h-used, h-not-mate) (m .0, m .2) (put-same (next b) h (next b (mate h)) ∙ e) (sym (left-owner j (m .1) (m .2)) ∙ q))
+      m .1 (alone-in past-mate h j (h-used, h-not-mate) (m .0, m .2) (put-same (next b) h (next b (mate h)) ∙ e) (sym (left-owner j (m .1) (m .2)) ∙ q))
 
   pub none-at-start : next b (mate h) ≡ h → (j : ℕ) → Now j → half-in es j .start ≢ start b h
   none-at-start e j u q =
       let m = left-out j u in
-      m .1 (alone-is (vertex-rings b s) h j h-used (m .0) e (sym (left-start j (m .1) (m .2)) ∙ q))
+      m .1 (alone-in (vertex-rings b s) h j h-used (m .0) e (sym (left-start j (m .1) (m .2)) ∙ q))
 
   -- where it is not, the half-edge after the mate is left, on the loop and at the start of h
   after-not-mate : next b (mate h) ≢ mate h

@@ -9,7 +9,7 @@ use lib.Dec.{eqb}
 use Rattle.std.specs.Options.{mapped}
 use Rattle.std.specs.declared.option.Option.the-variants.{None, Some}
 use Rattle.std.proofs.shelf.Lists.{map-set}
-use Rattle.std.proofs.shelf.Tests.{eq-eqb, ne-eqb, cond-true, cond-false}
+use Rattle.std.proofs.shelf.Tests.{eq-eqb, ne-eqb, cond-true, cond-false, and-parts}
 use Rattle.boundary.specs.declared.Refusal.the-variants.{Unused, Condition}
 use Rattle.boundary.specs.declared.Boundary.{Boundary}
 use Rattle.boundary.specs.Tables.{row, used, start, owner, mate, lone, shell-of, outer-of, loop-face, face-shell, loop-shell, loops-in}
@@ -17,7 +17,7 @@ use Rattle.boundary.specs.Changes.{with-faces, with-handles, clear-shell, clear
 use Rattle.boundary.specs.Operators.{one-more, kfmrh}
 use Rattle.boundary.specs.Refusals.{kfmrh-refusal}
 use Rattle.rules.specs.Rules.{Has, Used, Sizes, Named, Continues, LoopRings, VertexRings, LoneVertices, Outer, OneShell, Balanced, Sound}
-use Rattle.rules.proofs.Rows.{true-T, and-true, not-eqb, unless-none, row-put-other, length-put, length-mapped, has-clear-in, has-clear-out, has-map-in, has-map-out}
+use Rattle.rules.proofs.Rows.{true-T, not-eqb, unless-none, row-put-other, length-put, length-mapped, has-clear-in, has-clear-out, has-map-in, has-map-out}
 use Rattle.rules.proofs.Counts.{count-clear, count-map, one-more-is}
 use Rattle.rules.proofs.Fields.{inner-lone, inner-hit, inner-miss, merged-outer, merged-shell, merged-hit, merged-miss}
 use Rattle.rules.proofs.Halves.{used-mate}
@@ -343,6 +343,6 @@ pub kfmrh-keeps : (b : Boundary) (f g : ℕ) → Sound b → f < 96 → g < 96 �
 kfmrh-keeps b f g s lf lg q =
     let x = unless-none (used (b .faces) f && used (b .faces) g) Unused _ q in
     let y = unless-none (not (eqb f g) && eqb (loops-in b g) 1) Condition None (x .1) in
-    let both = and-true (used (b .faces) f) (used (b .faces) g) (x .0) in
-    let apart = and-true (not (eqb f g)) (eqb (loops-in b g) 1) (y .0) in
+    let both = and-parts (used (b .faces) f) (used (b .faces) g) (x .0) in
+    let apart = and-parts (not (eqb f g)) (eqb (loops-in b g) 1) (y .0) in
     connects b f g s (true-T (used (b .faces) f) (both .0)) (true-T (used (b .faces) g) (both .1)) (not-eqb f g (apart .0)) (ℕ-discrete (face-shell b f) (face-shell b g))

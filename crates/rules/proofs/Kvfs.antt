@@ -8,7 +8,7 @@ use lib.Dec.{eqb}
 use Rattle.std.specs.Options.{isSome, valueOr}
 use Rattle.std.specs.declared.option.Option.{Option}
 use Rattle.std.specs.declared.option.Option.the-variants.{None, Some}
-use Rattle.std.proofs.shelf.Tests.{eqb-true}
+use Rattle.std.proofs.shelf.Tests.{eqb-true, and-parts}
 use Rattle.boundary.specs.declared.Refusal.the-variants.{Unused, Condition}
 use Rattle.boundary.specs.declared.Boundary.{Boundary}
 use Rattle.boundary.specs.Tables.{row, used, start, owner, mate, lone, lone-of, face-of, shell-of, outer-of, loop-face, face-shell, loop-shell, faces-in, loops-in}
@@ -16,7 +16,7 @@ use Rattle.boundary.specs.Changes.{clear-shell, clear-face, clear-loop, clear-v
 use Rattle.boundary.specs.Operators.{face-in, kvfs}
 use Rattle.boundary.specs.Refusals.{is-minimal, kvfs-refusal}
 use Rattle.rules.specs.Rules.{Has, Used, Sizes, Named, LoneVertices, Outer, OneShell, Balanced, Sound}
-use Rattle.rules.proofs.Rows.{some-value, true-T, and-true, unless-none, row-put-other, length-put, has-clear-in, has-clear-out, lone-has}
+use Rattle.rules.proofs.Rows.{some-value, true-T, unless-none, row-put-other, length-put, has-clear-in, has-clear-out, lone-has}
 use Rattle.rules.proofs.Counts.{count-clear}
 use Rattle.rules.proofs.Fields.{one-loop-in, one-face-in, face-in-is}
 use Rattle.rules.proofs.Halves.{used-mate}
@@ -203,8 +203,8 @@ minimal b a q =
     let o : Option ℕ = lone b (outer-of (row (b .faces) f)) in
     let first = unless-none (used (b .shells) a) Unused _ q in
     let second = unless-none (is-minimal b a) Condition None (first .1) in
-    let x = and-true (eqb (faces-in b a) 1) (eqb (loops-in b f) 1 && isSome o) (second .0) in
-    let y = and-true (eqb (loops-in b f) 1) (isSome o) (x .1) in
+    let x = and-parts (eqb (faces-in b a) 1) (eqb (loops-in b f) 1 && isSome o) (second .0) in
+    let y = and-parts (eqb (loops-in b f) 1) (isSome o) (x .1) in
     let one = eqb-true (faces-in b a) 1 (x .0) in
     let is = face-in-is b a one in
     record {

@@ -12,7 +12,7 @@ use Rattle.std.specs.Options.{isSome}
 use Rattle.std.specs.shelf.Lists.{Has as In}
 use Rattle.std.specs.declared.option.Option.{Option}
 use Rattle.std.specs.declared.option.Option.the-variants.{None, Some}
-use Rattle.std.proofs.shelf.Tests.{eqb-true}
+use Rattle.std.proofs.shelf.Tests.{eqb-true, and-parts}
 use Rattle.boundary.specs.declared.Edge.{Edge}
 use Rattle.boundary.specs.declared.Boundary.{Boundary}
 use Rattle.boundary.specs.declared.Refusal.the-variants.{Unused, Taken, Condition}
@@ -26,13 +26,12 @@ use Rattle.rings.proofs.Facts.{walk-label, before, injective}
 use Rattle.rings.proofs.Walks.{on-run?}
 use Rattle.rings.proofs.Euler.{loops-stay, vertices-stay}
 use Rattle.rules.specs.Rules.{Has, Used, turn, Sizes, Named, LoneVertices, Outer, OneShell, Balanced, Sound}
-use Rattle.rules.proofs.Rows.{true-T, and-true, not-eqb, unless-none, free-not-has, row-has, row-put-same, row-put-other, length-put, lone-has}
+use Rattle.rules.proofs.Rows.{true-T, not-eqb, unless-none, free-not-has, row-has, row-put-same, row-put-other, length-put, lone-has, none-not-some}
 use Rattle.rules.proofs.Counts.{count-put-free}
 use Rattle.rules.proofs.Halves.{mate-of-even, mate-of-odd, new-edge, new-even, put-even, put-odd, half-put-other, put-used-even, put-used-odd, put-used-in, put-used-cases, owned-hit, owned-miss, used-mate}
 use Rattle.rules.proofs.Views.{paired, loop-rings, vertex-rings, loop-rings-by, vertex-rings-by, continues-by, next-used-by}
 use Rattle.rules.proofs.Runs.{Met, loop-meets, in-from-on, on-from-in, last-step}
 use Rattle.rules.proofs.Led.{Alike, owned-alike, led-twice, twice-has-in, twice-has-out, twice-length, twice-count, twice-start, twice-owner, twice-first, twice-second, twice-other}
-use Rattle.rules.proofs.Erase.{some-none}
 
 -- what an accepted edit says
 pub record Asked (b : Boundary) (h j k f l : ℕ) : Type 0 where
@@ -49,10 +48,10 @@ asked b h j k f l q =
     let r = unless-none (half-used b h && half-used b j) Unused _ q in
     let t = unless-none (free (b .edges) k && (free (b .faces) f && free (b .loops) l)) Taken _ (r .1) in
     let w = unless-none (not (eqb h j) && eqb (owner b h) (owner b j)) Condition None (t .1) in
-    let halves = and-true (half-used b h) (half-used b j) (r .0) in
-    let frees = and-true (free (b .edges) k) (free (b .faces) f && free (b .loops) l) (t .0) in
-    let others = and-true (free (b .faces) f) (free (b .loops) l) (frees .1) in
-    let rest = and-true (not (eqb h j)) (eqb (owner b h) (owner b j)) (w .0) in
+    let halves = and-parts (half-used b h) (half-used b j) (r .0) in
+    let frees = and-parts (free (b .edges) k) (free (b .faces) f && free (b .loops) l) (t .0) in
+    let others = and-parts (free (b .faces) f) (free (b .loops) l) (frees .1) in
+    let rest = and-parts (not (eqb h j)) (eqb (owner b h) (owner b j)) (w .0) in
     record {
       h-used = true-T (half-used b h) (halves .0);
       j-used = true-T (half-used b j) (halves .1);
@@ -235,7 +234,7 @@ module _ (b c : Boundary) (h j k x y f l : ℕ) (s : Sound b) (a : Asked b h j k
 
   lone-was : (i v : ℕ) → lone c i ≡ Some v → (i ≢ l) × (lone b i ≡ Some v)
   lone-was i v e = elim (ℕ-discrete i l) [
-    | yes q ↦ absurd (some-none v (sym e ∙ ap (lone c) q ∙ lone-l))
+    | yes q ↦ absurd (none-not-some (ap (lone c) q ∙ lone-l) e)
     | no ne ↦ (ne, sym (lone-same i ne) ∙ e)
   ]
 

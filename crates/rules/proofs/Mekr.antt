@@ -11,7 +11,7 @@ use lib.ListN.{length, set}
 use Rattle.std.specs.Options.{isSome, valueOr}
 use Rattle.std.specs.declared.option.Option.{Option}
 use Rattle.std.specs.declared.option.Option.the-variants.{None, Some}
-use Rattle.std.proofs.shelf.Tests.{eqb-true}
+use Rattle.std.proofs.shelf.Tests.{eqb-true, and-parts}
 use Rattle.boundary.specs.declared.Refusal.the-variants.{Unused, Taken, Condition}
 use Rattle.boundary.specs.declared.Edge.{Edge}
 use Rattle.boundary.specs.declared.Loop.{Loop}
@@ -26,11 +26,11 @@ use Rattle.rings.specs.Euler.{put, swap}
 use Rattle.rings.proofs.Put.{put-same, put-other}
 use Rattle.rings.proofs.Swap.{join-keeps}
 use Rattle.rules.specs.Rules.{Has, Used, turn, Sizes, Named, LoneVertices, Outer, OneShell, Balanced, Sound}
-use Rattle.rules.proofs.Rows.{some-value, true-T, and-true, not-eqb, unless-none, free-not-has, has-below, row-put-same, row-put-other, length-put, has-put-other-in, has-put-again, has-clear-in, has-clear-out, used-map, length-mapped, lone-has}
+use Rattle.rules.proofs.Rows.{some-value, true-T, not-eqb, unless-none, free-not-has, has-below, row-put-same, row-put-other, length-put, has-put-other-in, has-put-again, has-clear-in, has-clear-out, used-map, length-mapped, lone-has, none-not-some, some-same}
 use Rattle.rules.proofs.Counts.{count-put-free, count-put-used, count-clear, count-map}
 use Rattle.rules.proofs.Halves.{half-of-even, mate-of-even, mate-of-odd, used-mate, new-edge, new-even, new-odd, put-even, put-odd, half-put-other, put-used-even, put-used-odd, put-used-in, put-used-cases, led-start, led-owner, led-hit, led-miss, joined-start, joined-next, joined-hit, joined-miss}
 use Rattle.rules.proofs.Views.{loop-rings, vertex-rings, next-used-by, loop-rings-by, vertex-rings-by, continues-by}
-use Rattle.rules.proofs.Enter.{none-some, some-same, EnteredTwo, enter-two-keeps}
+use Rattle.rules.proofs.Enter.{EnteredTwo, enter-two-keeps}
 
 -- what led to the target leads to x; nothing leads to none
 abbrev pub led-to : List (Option Edge) → Option ℕ → ℕ → List (Option Edge)
@@ -58,7 +58,7 @@ led-to-owner es None x h = refl
 led-to-owner es (Some a) x h = led-owner es a x h
 
 led-to-hit : (es : List (Option Edge)) (t : Option ℕ) (x h : ℕ) → Has es (h / 2) → t ≡ Some (half-in es h .next) → half-in (led-to es t x) h .next ≡ x
-led-to-hit es None x h u e = absurd (none-some refl e)
+led-to-hit es None x h u e = absurd (none-not-some refl e)
 led-to-hit es (Some a) x h u e = led-hit es a x h u (some-same e refl)
 
 led-to-miss : (es : List (Option Edge)) (t : Option ℕ) (x h : ℕ) → Has es (h / 2) → t ≢ Some (half-in es h .next) → half-in (led-to es t x) h .next ≡ half-in es h .next
@@ -399,7 +399,7 @@ module _ (b : Boundary) (p q : Option ℕ) (l m v w k : ℕ) (s : Sound b) (j : 
 
   lone-out : (n i : ℕ) → lone new n ≡ Some i → (n ≢ l) × (n ≢ m) × (lone b n ≡ Some i)
   lone-out n i e =
-      let nl : n ≢ l = λ d. none-some (ap (lone new) d ∙ lone-here) e in
+      let nl : n ≢ l = λ d. none-not-some (ap (lone new) d ∙ lone-here) e in
       let nm = loop-out n (lone-has new n i e) .1 in
       (nl, nm, sym (ap lone-of (loop-there n nl nm)) ∙ e)
 
@@ -568,14 +568,14 @@ at-half b s a u = record {
   loop-used = s .named .owner-used a u;
   vertex-used = s .named .start-used a u;
   at = λ c e. let same : a ≡ c = some-same refl e in (subst (Used b) same u, ap (owner b) (sym same), ap (start b) (sym same));
-  alone = λ e. absurd (none-some e refl);
+  alone = λ e. absurd (none-not-some e refl);
 }
 
 at-lone : (b : Boundary) → Sound b → (l v : ℕ) → lone b l ≡ Some v → Place b None l v
 at-lone b s l v e = record {
   loop-used = lone-has b l v e;
   vertex-used = s .named .lone-used l v e;
-  at = λ c d. absurd (none-some refl d);
+  at = λ c d. absurd (none-not-some refl d);
   alone = λ d. e;
 }
 
@@ -593,11 +593,11 @@ linkable b a c k s lt r =
     let first = unless-none (place-used b a && place-used b c) Unused _ r in
     let second = unless-none (free (b .edges) k) Taken _ (first .1) in
     let third = unless-none (has-vertex b a && (has-vertex b c && are-joinable b l m)) Condition None (second .1) in
-    let uses = and-true (place-used b a) (place-used b c) (first .0) in
-    let x = and-true (has-vertex b a) (has-vertex b c && are-joinable b l m) (third .0) in
-    let y = and-true (has-vertex b c) (are-joinable b l m) (x .1) in
-    let z = and-true (not (eqb l m)) (eqb (loop-face b l) (loop-face b m) && not (eqb (outer-of (row (b .faces) (loop-face b m))) m)) (y .1) in
-    let w = and-true (eqb (loop-face b l) (loop-face b m)) (not (eqb (outer-of (row (b .faces) (loop-face b m))) m)) (z .1) in
+    let uses = and-parts (place-used b a) (place-used b c) (first .0) in
+    let x = and-parts (has-vertex b a) (has-vertex b c && are-joinable b l m) (third .0) in
+    let y = and-parts (has-vertex b c) (are-joinable b l m) (x .1) in
+    let z = and-parts (not (eqb l m)) (eqb (loop-face b l) (loop-face b m) && not (eqb (outer-of (row (b .faces) (loop-face b m))) m)) (y .1) in
+    let w = and-parts (eqb (loop-face b l) (loop-face b m)) (not (eqb (outer-of (row (b .faces) (loop-face b m))) m)) (z .1) in
     record {
       from = place b s a (uses .0) (x .0);
       to = place b s c (uses .1) (y .0);

@@ -14,9 +14,10 @@ use Rattle.boundary.specs.Tables.{is-half-place, half-used, used, lone}
 use Rattle.boundary.specs.Operators.{mev, mev-before, mev-lone}
 use Rattle.boundary.specs.Refusals.{free, unless, place-used, has-vertex, mev-refusal}
 use Rattle.rules.specs.Rules.{Has, Used, Sound}
-use Rattle.rules.proofs.Rows.{true-T, and-true, unless-none, free-not-has}
+use Rattle.rules.proofs.Rows.{true-T, unless-none, free-not-has, some-value}
 use Rattle.rules.proofs.MevBefore.{before-sound}
 use Rattle.rules.proofs.MevLone.{lone-sound}
+use Rattle.std.proofs.shelf.Tests.{and-parts}
 
 -- what an accepted edit says, at each kind of place
 pub record Free (b : Boundary) (k v : ℕ) : Type 0 where
@@ -35,7 +36,7 @@ module _ (b : Boundary) (a k v : ℕ) (q : mev-refusal b a k v ≡ None) where
 
   pub mev-free : Free b k v
   mev-free =
-      let both = and-true (free (b .edges) k) (free (b .vertices) v) both-free in
+      let both = and-parts (free (b .edges) k) (free (b .vertices) v) both-free in
       record { edge = free-not-has (b .edges) k (both .0); vertex = free-not-has (b .vertices) v (both .1) }
 
   place-has-vertex : has-vertex b a ≡ true
@@ -46,11 +47,7 @@ module _ (b : Boundary) (a k v : ℕ) (q : mev-refusal b a k v ≡ None) where
   mev-at-half e = true-T (half-used b a) (sym (ap (λ c. cond c (half-used b a) (used (b .loops) (a - 512))) e) ∙ place-is-used)
 
   pub mev-at-lone : is-half-place a ≡ false → lone b (a - 512) ≡ Some (valueOr (lone b (a - 512)) 0)
-  mev-at-lone e = valued (lone b (a - 512)) (sym (ap (λ c. cond c true (isSome (lone b (a - 512)))) e) ∙ place-has-vertex)
-    where
-      valued : (o : Option ℕ) → isSome o ≡ true → o ≡ Some (valueOr o 0)
-      valued None t = absurd (true-T false t)
-      valued (Some x) t = refl
+  mev-at-lone e = some-value (lone b (a - 512)) (true-T (isSome (lone b (a - 512))) (sym (ap (λ c. cond c true (isSome (lone b (a - 512)))) e) ∙ place-has-vertex))
 
 pub mev-keeps : (b : Boundary) (a k v : ℕ) (p : Point) → Sound b → ((a < 384) ⊎ ((512 ≤ a) × (a < 608))) → k < 192 → v < 128 → mev-refusal b a k v ≡ None → Sound (mev b a k v p)
 mev-keeps b a k v p s at k-small v-small q = go (is-half-place a) refl

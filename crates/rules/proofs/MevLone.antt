@@ -89,7 +89,7 @@ module _ (b : Boundary) (l k v w : ℕ) (s : Sound b) (w-lone : lone b l ≡ Som
   row-other m ne = row-put-other (b .loops) l m _ ne
 
   lone-gone : (m u : ℕ) → lone-of (row ls m) ≡ Some u → m ≢ l
-  lone-gone m u e q = none-not-some (lone-of (row ls m)) u (ap (λ i. lone-of (row ls i)) q ∙ ap lone-of row-here) e
+  lone-gone m u e q = none-not-some (ap (λ i. lone-of (row ls i)) q ∙ ap lone-of row-here) e
 
   lone-before : (m u : ℕ) → lone-of (row ls m) ≡ Some u → lone b m ≡ Some u
   lone-before m u e = sym (ap lone-of (row-other m (lone-gone m u e))) ∙ e
@@ -109,7 +109,7 @@ module _ (b : Boundary) (l k v w : ℕ) (s : Sound b) (w-lone : lone b l ≡ Som
     lone-not-l = lone-gone;
     lone-none = λ m e. elim (ℕ-discrete m l) [ yes q ↦ inl q | no ne ↦ inr (sym (ap lone-of (row-other m ne)) ∙ e) ];
     lone-still = λ m u e. elim (ℕ-discrete m l) [
-      | yes q ↦ inl (some-same (lone b m) u w e (ap (lone b) q ∙ w-lone))
+      | yes q ↦ inl (some-same e (ap (lone b) q ∙ w-lone))
       | no ne ↦ inr (ap lone-of (row-other m ne) ∙ e)
     ];
   }

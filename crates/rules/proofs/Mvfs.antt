@@ -16,21 +16,22 @@ use Rattle.boundary.specs.Tables.{row, start, owner, mate, lone, lone-of, face-
 use Rattle.boundary.specs.Operators.{mvfs}
 use Rattle.boundary.specs.Refusals.{free, mvfs-refusal}
 use Rattle.rules.specs.Rules.{Has, Used, Sizes, Named, LoneVertices, Outer, OneShell, Balanced, Sound}
-use Rattle.rules.proofs.Rows.{and-true, unless-none, free-not-has, has-apart, row-put-same, row-put-other, length-put, has-put-same, has-put-other-in, has-put-cases, lone-has}
+use Rattle.rules.proofs.Rows.{unless-none, free-not-has, has-apart, row-put-same, row-put-other, length-put, has-put-same, has-put-other-in, has-put-cases, lone-has}
 use Rattle.rules.proofs.Counts.{count-put-free}
 use Rattle.rules.proofs.Halves.{used-mate}
 use Rattle.rules.proofs.Edges.{continues-beside, loops-beside, vertices-beside}
+use Rattle.std.proofs.shelf.Tests.{and-parts}
 
 -- the four numbers are in range and free
-record Fresh (b : Boundary) (a f l v : ℕ) : Type 0 where
-  shell-below : a < length (b .shells)
-  face-below : f < length (b .faces)
-  loop-below : l < length (b .loops)
-  vertex-below : v < length (b .vertices)
-  shell-free : Has (b .shells) a → ⊥
-  face-free : Has (b .faces) f → ⊥
-  loop-free : Has (b .loops) l → ⊥
-  vertex-free : Has (b .vertices) v → ⊥
+pub record Fresh (b : Boundary) (a f l v : ℕ) : Type 0 where
+  pub shell-below : a < length (b .shells)
+  pub face-below : f < length (b .faces)
+  pub loop-below : l < length (b .loops)
+  pub vertex-below : v < length (b .vertices)
+  pub shell-free : Has (b .shells) a → ⊥
+  pub face-free : Has (b .faces) f → ⊥
+  pub loop-free : Has (b .loops) l → ⊥
+  pub vertex-free : Has (b .vertices) v → ⊥
 
 module _ (b : Boundary) (a f l v : ℕ) (p : Point) (s : Sound b) (n : Fresh b a f l v) where
   abbrev new : Boundary
@@ -211,12 +212,12 @@ module _ (b : Boundary) (a f l v : ℕ) (p : Point) (s : Sound b) (n : Fresh b a
     balanced = balanced;
   }
 
-fresh : (b : Boundary) (a f l v : ℕ) → Sizes b → a < 8 → f < 96 → l < 96 → v < 128 → mvfs-refusal b a f l v ≡ None → Fresh b a f l v
+pub fresh : (b : Boundary) (a f l v : ℕ) → Sizes b → a < 8 → f < 96 → l < 96 → v < 128 → mvfs-refusal b a f l v ≡ None → Fresh b a f l v
 fresh b a f l v z la lf ll lv q =
     let all = unless-none (free (b .shells) a && (free (b .faces) f && (free (b .loops) l && free (b .vertices) v))) Taken None q .0 in
-    let x = and-true (free (b .shells) a) (free (b .faces) f && (free (b .loops) l && free (b .vertices) v)) all in
-    let y = and-true (free (b .faces) f) (free (b .loops) l && free (b .vertices) v) (x .1) in
-    let w = and-true (free (b .loops) l) (free (b .vertices) v) (y .1) in
+    let x = and-parts (free (b .shells) a) (free (b .faces) f && (free (b .loops) l && free (b .vertices) v)) all in
+    let y = and-parts (free (b .faces) f) (free (b .loops) l && free (b .vertices) v) (x .1) in
+    let w = and-parts (free (b .loops) l) (free (b .vertices) v) (y .1) in
     record {
       shell-below = omega (arith, z .shells);
       face-below = omega (arith, z .faces);

@@ -1,6 +1,6 @@
 -- No row of the empty boundary is used, so each rule but the sizes and the balance has nothing to hold of.
 use mathlib.Core.Path.{_≡_, refl, _∙_}
-use Prim.Native.Nat.{ℕ, _+_, _*_, _/_}
+use Prim.Native.Nat.{ℕ, _/_}
 use native.Mathlib.Omega.{arith}
 use lib.ListN.{replicate}
 use Rattle.std.specs.declared.option.Option.{Option}
@@ -13,7 +13,7 @@ use Rattle.boundary.specs.declared.Shell.{Shell}
 use Rattle.boundary.specs.declared.Point.{Point}
 use Rattle.boundary.specs.declared.Boundary.{Boundary}
 use Rattle.boundary.specs.Operators.{empty}
-use Rattle.boundary.specs.Tables.{count, lone}
+use Rattle.boundary.specs.Tables.{lone}
 use Rattle.rules.specs.Rules.{Has, Used, Sizes, Named, Continues, LoopRings, VertexRings, LoneVertices, Outer, OneShell, Balanced, Sound}
 use Rattle.rules.proofs.Rows.{has-none, lone-has}
 use Rattle.rules.proofs.Counts.{count-none}

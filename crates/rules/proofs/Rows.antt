@@ -1,10 +1,10 @@
 -- What a table has after a row is put or cleared, or all used rows are changed, and what an accepted edit says of its tests.
 use mathlib.Core.Path.{_≡_, refl, sym, ap, subst, _∙_}
 use mathlib.Core.Logic.{_≢_, _⊎_, inl, inr}
-use mathlib.Core.Bool.{Bool, true, false, not, _&&_}
+use mathlib.Core.Bool.{Bool, true, false, not}
 use mathlib.Core.List.{List, [], _∷_, map}
-use Prim.Native.Nat.{ℕ, zero, suc, _<_, _≤_}
-use native.Mathlib.Decide.{ℕ-discrete, decLt}
+use Prim.Native.Nat.{ℕ, zero, suc, _<_}
+use native.Mathlib.Decide.{ℕ-discrete}
 use native.Mathlib.Omega.{arith}
 use lib.Dec.{T, eqb}
 use lib.ListN.{length, set, replicate}
@@ -12,8 +12,8 @@ use lib.Seq.{getD-set-same, getD-set-other}
 use Rattle.std.specs.Options.{isSome, mapped, valueOr}
 use Rattle.std.specs.declared.option.Option.{Option}
 use Rattle.std.specs.declared.option.Option.the-variants.{None, Some}
-use Rattle.std.proofs.shelf.Lists.{length-set, length-map, set-past}
-use Rattle.std.proofs.shelf.Tests.{eqb-true, eqb-false}
+use Rattle.std.proofs.shelf.Lists.{length-set, length-map}
+use Rattle.std.proofs.shelf.Tests.{eqb-false, not-true}
 use Rattle.boundary.specs.declared.Boundary.{Boundary}
 use Rattle.boundary.specs.declared.Loop.{Loop}
 use Rattle.boundary.specs.declared.Refusal.{Refusal}
@@ -21,43 +21,13 @@ use Rattle.boundary.specs.Tables.{row, used, lone, lone-of}
 use Rattle.boundary.specs.Refusals.{free, unless}
 use Rattle.rules.specs.Rules.{Has}
 
--- a test that holds, in both forms, and one that does not
-pub T-true : (b : Bool) → T b → b ≡ true
-T-true true t = refl
-T-true false t = absurd t
-
+-- a test that holds, and one that does not
 pub true-T : (b : Bool) → b ≡ true → T b
 true-T true e = tt
 true-T false e = subst T (sym e) tt
 
-pub false-not-T : (b : Bool) → b ≡ false → T b → ⊥
-false-not-T b e t = subst T e t
-
-pub not-T-false : (b : Bool) → (T b → ⊥) → b ≡ false
-not-T-false true n = absurd (n tt)
-not-T-false false n = refl
-
-pub not-true-not-T : (b : Bool) → not b ≡ true → T b → ⊥
-not-true-not-T true e t = subst T (sym e) tt
-not-true-not-T false e t = t
-
-pub T-dec : (b : Bool) → Dec (T b)
-T-dec true = yes tt
-T-dec false = no (λ t. t)
-
--- the parts of a test that holds
-pub and-true : (a b : Bool) → (a && b) ≡ true → (a ≡ true) × (b ≡ true)
-and-true true true e = (refl, refl)
-and-true true false e = (refl, e)
-and-true false true e = (e, refl)
-and-true false false e = (e, e)
-
 pub not-eqb : (a b : ℕ) → not (eqb a b) ≡ true → a ≢ b
-not-eqb a b e = eqb-false a b (opposite (eqb a b) e)
-  where
-    opposite : (c : Bool) → not c ≡ true → c ≡ false
-    opposite true q = sym q
-    opposite false q = refl
+not-eqb a b e = eqb-false a b (not-true (eqb a b) e)
 
 -- an accepted edit passed its test, and what follows accepted it too
 pub unless-none : (t : Bool) (why : Refusal) (o : Option Refusal) → unless t why o ≡ None → (t ≡ true) × (o ≡ None)
@@ -86,24 +56,18 @@ module _ {X : Type 0} where
   pub no-row : (t : List (Option X)) (k : ℕ) → (Has t k → ⊥) → row t k ≡ None
   no-row t k n = none-row (row t k) n
 
-  pub unused-row : (t : List (Option X)) (k : ℕ) → used t k ≡ false → row t k ≡ None
-  unused-row t k e = no-row t k (false-not-T (used t k) e)
-
   pub row-not-has : (t : List (Option X)) (k : ℕ) → row t k ≡ None → Has t k → ⊥
   row-not-has t k e u = subst (λ r. T (isSome r)) e u
 
   -- what has a value is not without one, and has no other
-  pub none-not-some : (o : Option X) (x : X) → o ≡ None → o ≡ Some x → ⊥
-  none-not-some o x n e = subst (λ r. T (isSome r)) n (subst (λ r. T (isSome r)) (sym e) tt)
+  pub none-not-some : {o : Option X} {x : X} → o ≡ None → o ≡ Some x → ⊥
+  none-not-some n e = subst (λ r. T (isSome r)) (sym e ∙ n) tt
 
-  pub some-same : (o : Option X) (x y : X) → o ≡ Some x → o ≡ Some y → x ≡ y
-  some-same o x y p q = cc
-
-  pub has? : (t : List (Option X)) (k : ℕ) → Dec (Has t k)
-  has? t k = T-dec (used t k)
+  pub some-same : {o : Option X} {x y : X} → o ≡ Some x → o ≡ Some y → x ≡ y
+  some-same p q = cc
 
   pub free-not-has : (t : List (Option X)) (k : ℕ) → free t k ≡ true → Has t k → ⊥
-  free-not-has t k e = not-true-not-T (used t k) e
+  free-not-has t k e u = subst T (not-true (used t k) e) u
 
   pub has-below : (t : List (Option X)) (k : ℕ) → Has t k → k < length t
   has-below [] k u = absurd u

@@ -1,11 +1,10 @@
 -- What makes an edge or a shell is undone by what takes it away, to the same boundary.
 use mathlib.Core.Path.{_≡_, refl, sym, ap, subst, _∙_}
 use mathlib.Core.Logic.{_≢_, _⊎_}
-use mathlib.Core.Bool.{Bool, true, false, cond, _&&_}
+use mathlib.Core.Bool.{Bool, true, false, cond}
 use mathlib.Core.List.{List}
 use Prim.Native.Nat.{ℕ, _+_, _*_, _-_, _/_, _<_, _≤_}
 use native.Mathlib.Decide.{ℕ-discrete}
-use native.Mathlib.Omega.{arith}
 use lib.Dec.{T, eqb}
 use lib.ListN.{length, set}
 use Rattle.std.specs.Options.{isSome, mapped, valueOr}
@@ -18,18 +17,18 @@ use Rattle.boundary.specs.declared.HalfEdge.{HalfEdge}
 use Rattle.boundary.specs.declared.Edge.{Edge}
 use Rattle.boundary.specs.declared.Loop.{Loop}
 use Rattle.boundary.specs.declared.Boundary.{Boundary}
-use Rattle.boundary.specs.declared.Refusal.the-variants.{Taken}
 use Rattle.boundary.specs.Tables.{row, side, half-in, start, next, mate, lone, lone-of, face-of, shell-of, outer-of, in-shell, is-half-place}
 use Rattle.boundary.specs.Changes.{clear-shell, clear-face, clear-loop, clear-vertex, clear-edge, emptied, led, led-half, led-edge, led-in}
 use Rattle.boundary.specs.Operators.{face-in, kvfs, mvfs, kev, mev, mev-before, mev-lone}
-use Rattle.boundary.specs.Refusals.{free, mvfs-refusal, mev-refusal}
+use Rattle.boundary.specs.Refusals.{mvfs-refusal, mev-refusal}
 use Rattle.rules.specs.Rules.{Has, Used, Sound}
-use Rattle.rules.proofs.Rows.{and-true, unless-none, free-not-has, has-below, no-row, row-has, lone-has, row-put-same, row-put-other, row-map, length-put, length-mapped}
+use Rattle.rules.proofs.Rows.{has-below, no-row, row-has, lone-has, row-put-same, row-put-other, row-map, length-put, length-mapped}
 use Rattle.rules.proofs.Counts.{part-counted, first-part-in}
 use Rattle.rules.proofs.Halves.{half-of-even, half-even, half-odd, mate-of-even, new-even, half-of-odd}
 use Rattle.rules.proofs.Mev.{Free, mev-free, mev-at-half, mev-at-lone}
 use Rattle.rules.proofs.MevBefore.{before-edges, next-odd as before-next-odd, new-edge-is as before-new-edge}
 use Rattle.rules.proofs.MevLone.{ring-edges, bare-loop, bare-loops, next-odd as lone-next-odd, new-edge-is as lone-new-edge}
+use Rattle.rules.proofs.Mvfs.{Fresh, fresh}
 
 -- a table that differs from t at k alone is t again once its row k is
 pub put-back : {X : Type 0} (t z : List (Option X)) (k : ℕ) (r : Option X) → length z ≡ length t → row t k ≡ r → ((i : ℕ) → i ≢ k → row z i ≡ row t i) → set z k r ≡ t
@@ -191,39 +190,19 @@ kev-undoes-mev b a k v p s at k-small v-small q = go (is-half-place a) refl
     go true e = ap (λ x. kev (cond x (mev-before b a k v p) (mev-lone b (a - 512) k v p)) (2 * k)) e ∙ before-undone b a k v p s (mev-at-half b a k v q e) k-small (mev-free b a k v q)
     go false e = ap (λ x. kev (cond x (mev-before b a k v p) (mev-lone b (a - 512) k v p)) (2 * k)) e ∙ lone-undone b (a - 512) k v (valueOr (lone b (a - 512)) 0) p s (mev-at-lone b a k v q e) k-small (mev-free b a k v q)
 
--- a shell with its face, loop and vertex
-record FreeShell (b : Boundary) (a f l v : ℕ) : Type 0 where
-  shell : Has (b .shells) a → ⊥
-  face : Has (b .faces) f → ⊥
-  loop : Has (b .loops) l → ⊥
-  vertex : Has (b .vertices) v → ⊥
-
-mvfs-free : (b : Boundary) (a f l v : ℕ) → mvfs-refusal b a f l v ≡ None → FreeShell b a f l v
-mvfs-free b a f l v q =
-    let one = unless-none (free (b .shells) a && (free (b .faces) f && (free (b .loops) l && free (b .vertices) v))) Taken None q .0 in
-    let two = and-true (free (b .shells) a) (free (b .faces) f && (free (b .loops) l && free (b .vertices) v)) one in
-    let three = and-true (free (b .faces) f) (free (b .loops) l && free (b .vertices) v) (two .1) in
-    let four = and-true (free (b .loops) l) (free (b .vertices) v) (three .1) in
-    record {
-      shell = free-not-has (b .shells) a (two .0);
-      face = free-not-has (b .faces) f (three .0);
-      loop = free-not-has (b .loops) l (four .0);
-      vertex = free-not-has (b .vertices) v (four .1);
-    }
-
--- the operator with what it reads handed to it
+-- a shell with its face, loop and vertex: the operator with what it reads handed to it
 abbrev kvfs-parts : Boundary → ℕ → ℕ → ℕ → ℕ → Boundary
 kvfs-parts c a f l v = clear-vertex (clear-loop (clear-face (clear-shell c a) f) l) v
 
-module _ (b : Boundary) (a f l v : ℕ) (p : Point) (s : Sound b) (f-small : f < 96) (l-small : l < 96) (open-rows : FreeShell b a f l v) where
+module _ (b : Boundary) (a f l v : ℕ) (p : Point) (s : Sound b) (open-rows : Fresh b a f l v) where
   abbrev made : Boundary
   made = mvfs b a f l v p
 
   face-row : row (made .faces) f ≡ Some (record { shell = a; outer = l })
-  face-row = row-put-same (b .faces) f _ (let z = s .sizes .faces in omega arith)
+  face-row = row-put-same (b .faces) f _ (open-rows .face-below)
 
   loop-row : row (made .loops) l ≡ Some (record { face = f; lone = Some v })
-  loop-row = row-put-same (b .loops) l _ (let z = s .sizes .loops in omega arith)
+  loop-row = row-put-same (b .loops) l _ (open-rows .loop-below)
 
   -- no other face lies in the new shell
   face-is : face-in made a ≡ f
@@ -234,7 +213,7 @@ module _ (b : Boundary) (a f l v : ℕ) (p : Point) (s : Sound b) (f-small : f <
         | no ne ↦
             let old : row (b .faces) (face-in made a) ≡ Some (x .0) = sym (row-put-other (b .faces) f (face-in made a) _ ne) ∙ x .1 in
             let used-shell = s .named .shell-used (face-in made a) (row-has (b .faces) (face-in made a) (x .0) old) in
-            absurd (open-rows .shell (subst (Has (b .shells)) (ap shell-of old ∙ x .2) used-shell))
+            absurd (open-rows .shell-free (subst (Has (b .shells)) (ap shell-of old ∙ x .2) used-shell))
       ]
 
   outer-is : outer-of (row (made .faces) (face-in made a)) ≡ l
@@ -245,10 +224,10 @@ module _ (b : Boundary) (a f l v : ℕ) (p : Point) (s : Sound b) (f-small : f <
 
   shell-undone : kvfs (mvfs b a f l v p) a ≡ b
   shell-undone =
-      let ss = put-clear (b .shells) a (record {}) (open-rows .shell) in
-      let fs = put-clear (b .faces) f (record { shell = a; outer = l }) (open-rows .face) in
-      let ls = put-clear (b .loops) l (record { face = f; lone = Some v }) (open-rows .loop) in
-      let vs = put-clear (b .vertices) v p (open-rows .vertex) in
+      let ss = put-clear (b .shells) a (record {}) (open-rows .shell-free) in
+      let fs = put-clear (b .faces) f (record { shell = a; outer = l }) (open-rows .face-free) in
+      let ls = put-clear (b .loops) l (record { face = f; lone = Some v }) (open-rows .loop-free) in
+      let vs = put-clear (b .vertices) v p (open-rows .vertex-free) in
       let x = face-is in
       let y = outer-is in
       let z = vertex-is in
@@ -256,4 +235,4 @@ module _ (b : Boundary) (a f l v : ℕ) (p : Point) (s : Sound b) (f-small : f <
       ∙ (λ i. record { shells = ss i; faces = fs i; loops = ls i; edges = b .edges; vertices = vs i; handles = b .handles })
 
 pub kvfs-undoes-mvfs : (b : Boundary) (a f l v : ℕ) (p : Point) → Sound b → a < 8 → f < 96 → l < 96 → v < 128 → mvfs-refusal b a f l v ≡ None → kvfs (mvfs b a f l v p) a ≡ b
-kvfs-undoes-mvfs b a f l v p s a-small f-small l-small v-small q = shell-undone b a f l v p s f-small l-small (mvfs-free b a f l v q)
+kvfs-undoes-mvfs b a f l v p s a-small f-small l-small v-small q = shell-undone b a f l v p s (fresh b a f l v (s .sizes) a-small f-small l-small v-small q)

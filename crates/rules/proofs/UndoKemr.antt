@@ -23,15 +23,15 @@ use Rattle.boundary.specs.Operators.{half-edge, edge, led-place, onward, kemr, 
 use Rattle.boundary.specs.Refusals.{free, kemr-refusal}
 use Rattle.rings.specs.Rings.{walk, Rings, First, OnRun}
 use Rattle.rings.proofs.Walks.{walk-first, on-run?}
-use Rattle.rings.proofs.Facts.{walk-used, walk-label, injective}
+use Rattle.rings.proofs.Facts.{walk-used, walk-label, injective, alone-in}
 use Rattle.rules.specs.Rules.{Has, Used, Sound}
 use Rattle.rules.specs.RingLaws.{run-place}
 use Rattle.rules.proofs.Rows.{true-T, unless-none, free-not-has, has-row, has-below, no-row, row-put-same, row-put-other, length-put, has-put-other-in, has-clear-out, has-map-in, has-map-out, length-mapped}
-use Rattle.rules.proofs.Halves.{half-of-even, half-of-odd, half-even, half-odd, mate-of-even, mate-of-odd, led-start, led-owner, led-hit, led-miss, joined-start, joined-next, joined-hit, joined-miss, owned-has-in, owned-has-out, owned-length, owned-start, owned-next, owned-hit, owned-miss}
+use Rattle.rules.proofs.Halves.{half-of-even, half-of-odd, half-even, half-odd, mate-of-even, mate-of-odd, led-start, led-owner, led-hit, led-miss, joined-start, joined-next, joined-hit, joined-miss, owned-hit, owned-miss}
 use Rattle.rules.proofs.Views.{loop-rings, half-below}
 use Rattle.rules.proofs.Runs.{Met, loop-meets, in-from-on, on-from-in}
 use Rattle.rules.proofs.Led.{Alike, owned-alike}
-use Rattle.rules.proofs.Erase.{alone-in, erased-in, erased-length, erased-still, erased-start, erased-owner, erased-first, erased-second, erased-other, lone-put, emptied-is, lone-put-other, lone-put-face, lone-put-true, lone-put-length}
+use Rattle.rules.proofs.Erase.{erased-in, erased-length, erased-still, erased-start, erased-owner, erased-first, erased-second, erased-other, lone-put, emptied-is, lone-put-other, lone-put-face, lone-put-true, lone-put-length}
 use Rattle.rules.proofs.Undo.{put-back, row-by-halves, same-half}
 
 -- what an accepted edit says of the edge k

@@ -1,7 +1,7 @@
 -- An edge drawn across a loop is undone by erasing it, to the same boundary.
-use mathlib.Core.Path.{_≡_, refl, sym, ap, subst, _∙_}
+use mathlib.Core.Path.{_≡_, sym, ap, subst, _∙_}
 use mathlib.Core.Logic.{_≢_, inl, inr}
-use mathlib.Core.Bool.{Bool, true, false, _&&_}
+use mathlib.Core.Bool.{Bool, false}
 use mathlib.Core.List.{List}
 use Prim.Native.Nat.{ℕ, _+_, _*_, _/_, _<_}
 use native.Mathlib.Decide.{ℕ-discrete}
@@ -10,7 +10,7 @@ use lib.Dec.{eqb}
 use lib.ListN.{set}
 use Rattle.std.specs.declared.option.Option.{Option}
 use Rattle.std.specs.declared.option.Option.the-variants.{None}
-use Rattle.std.proofs.shelf.Tests.{ne-eqb}
+use Rattle.std.proofs.shelf.Tests.{ne-eqb, and-right}
 use Rattle.boundary.specs.declared.Edge.{Edge}
 use Rattle.boundary.specs.declared.Boundary.{Boundary}
 use Rattle.boundary.specs.Tables.{half-in, start, next, owner, mate, face-of, loop-face, loop-shell}
@@ -32,10 +32,6 @@ kef-parts-same : (c : Boundary) (x : ℕ) {t t′ : Bool} {y y′ l l′ m m′ 
     → t ≡ t′ → y ≡ y′ → l ≡ l′ → m ≡ m′ → p ≡ p′ → q ≡ q′ → k ≡ k′ → g ≡ g′
     → kef-parts t c x y l m p q v k g ≡ kef-parts t′ c x y′ l′ m′ p′ q′ v k′ g′
 kef-parts-same c x v et ey el em ep eq ek eg = λ i. kef-parts (et i) c x (ey i) (el i) (em i) (ep i) (eq i) v (ek i) (eg i)
-
-and-false : (s t : Bool) → t ≡ false → (s && t) ≡ false
-and-false true t e = e
-and-false false t e = refl
 
 -- the edges of c, which has of b what a drawn edge leaves, are those of b again
 module _ (b c : Boundary) (h j k f l : ℕ) (s : Sound b) (a : Asked b h j k f l) (d : Made b c h j (2 * k) (2 * k + 1) f l) where
@@ -132,7 +128,7 @@ module _ (b c : Boundary) (h j k f l : ℕ) (s : Sound b) (a : Asked b h j k f l
   read =
       let m = mate-of-odd k in
       kef-parts-same c x (start c x)
-      (and-false (eqb (next c x) x) (eqb (next c (mate x)) (mate x)) (ap (λ i. eqb (next c i) i) m ∙ ne-eqb (next c y) y y-not-alone))
+      (and-right (eqb (next c x) x) (eqb (next c (mate x)) (mate x)) (ap (λ i. eqb (next c i) i) m ∙ ne-eqb (next c y) y y-not-alone))
       m
       (ap (λ r. r .owner) (d .y-half))
       (ap (owner c) m ∙ ap (λ r. r .owner) (d .x-half))

@@ -1,14 +1,13 @@
 -- The rules of a boundary as rings of its half-edges, and back.
-use mathlib.Core.Path.{_≡_, refl, sym, ap, subst, _∙_}
-use mathlib.Core.Logic.{_≢_}
+use mathlib.Core.Path.{_≡_, sym, ap, _∙_}
 use Prim.Native.Nat.{ℕ, _<_}
 use Rattle.boundary.specs.declared.Boundary.{Boundary}
 use Rattle.boundary.specs.Tables.{start, next, owner, mate}
-use Rattle.rings.specs.Rings.{Rings, Reaches}
+use Rattle.rings.specs.Rings.{Rings}
 use Rattle.rings.specs.Euler.{Paired}
 use Rattle.rings.proofs.Facts.{injective}
-use Rattle.rules.specs.Rules.{Used, turn, Named, Continues, LoopRings, VertexRings, Sound}
-use Rattle.rules.proofs.Halves.{mate-mate, mate-same, used-mate, mate-used, used-small}
+use Rattle.rules.specs.Rules.{Used, turn, Continues, LoopRings, VertexRings, Sound}
+use Rattle.rules.proofs.Halves.{mate-mate, used-mate, used-small}
 
 pub paired : (b : Boundary) → Paired mate (Used b)
 paired b = record { in-use = used-mate b; back = λ h u. mate-mate h }
