@@ -1,5 +1,5 @@
 -- What an accepted edit says: its numbers are in range, and the operator does not refuse it.
-use mathlib.Core.Path.{_≡_, sym, ap, subst}
+use mathlib.Core.Path.{_≡_, sym, subst}
 use mathlib.Core.Logic.{_⊎_, inl, inr}
 use mathlib.Core.Bool.{true, _&&_}
 use Prim.Native.Nat.{ℕ, _<_, _≤_}
@@ -11,17 +11,13 @@ use Rattle.std.proofs.shelf.Tests.{ltb-true, lt-ltb, leb-true, cond-true, or-ca
 use Rattle.boundary.specs.declared.Boundary.{Boundary}
 use Rattle.boundary.specs.declared.Edit.{Edit}
 use Rattle.boundary.specs.declared.Refusal.the-variants.{OutOfRange}
-use Rattle.boundary.specs.Operators.{named, applied}
-use Rattle.boundary.specs.Refusals.{below, is-place, in-range, refusal-within, refusal, after, unchanged}
+use Rattle.boundary.specs.Operators.{named}
+use Rattle.boundary.specs.Refusals.{below, is-place, in-range, refusal-within, refusal}
 use Rattle.rules.proofs.Rows.{unless-none}
 
 pub accepted : (b : Boundary) (e : Edit) → refusal b e ≡ None → (in-range e ≡ true) × (refusal-within b e ≡ None)
 unfolding refusal
 accepted b e q = unless-none (in-range e) OutOfRange (refusal-within b e) q
-
-pub after-accepted : (b : Boundary) (e : Edit) → refusal b e ≡ None → after b e ≡ applied b e
-unfolding after
-after-accepted b e q = ap (λ r. unchanged r b (applied b e)) q
 
 -- a number in range is below the table's length
 pub below-named : (n : ℕ) (a : ℤ) → n ≤ 65536 → below n a ≡ true → named a < n

@@ -23,7 +23,7 @@ use Rattle.rings.proofs.Facts.{injective}
 use Rattle.rings.proofs.Put.{swapped-by-put, skip-hit, skip-miss}
 use Rattle.rings.proofs.Euler.{vertices-left}
 use Rattle.rules.specs.Rules.{Has, Used, turn, Sound}
-use Rattle.rules.proofs.Rows.{has-below, has-put-other-in, has-put-again, row-put-same, row-put-other, length-put}
+use Rattle.rules.proofs.Rows.{has-below, has-put-other-in, has-put-again, row-put-same, row-put-other, length-put, some-same}
 use Rattle.rules.proofs.Counts.{count-put-used, count-clear}
 use Rattle.rules.proofs.Halves.{mate-apart, other-edge, half-put-other, clear-mates-in, clear-mates-out}
 use Rattle.rules.proofs.Views.{paired, loop-rings, vertex-rings}
@@ -136,42 +136,42 @@ module _ (b c : Boundary) (x y : ℕ) (s : Sound b) (d : Gone b c x y) where
 
 -- what led to m leads to p, then what led to n leads to q, and the edge of x is cleared
 abbrev pub erased-in : List (Option Edge) → ℕ → ℕ → ℕ → ℕ → ℕ → List (Option Edge)
-erased-in es₁ m p n q x = set (led-twice es₁ m p n q) (x / 2) None
+erased-in es₁ m p n q x = set (led-twice es₁ (Some m) p (Some n) q) (x / 2) None
 
 module _ (es es₁ : List (Option Edge)) (m p n q x : ℕ) (a : Alike es es₁) where
   abbrev led-es : List (Option Edge)
-  led-es = led-twice es₁ m p n q
+  led-es = led-twice es₁ (Some m) p (Some n) q
 
   pub erased-in-use : (i : ℕ) → Has (erased-in es₁ m p n q x) (i / 2) → Has es (i / 2) × (i ≢ x) × (i ≢ mate x)
-  erased-in-use i w = let o = clear-mates-out led-es x i w in (twice-has-out es es₁ m p n q a (i / 2) (o .0), o .1, o .2)
+  erased-in-use i w = let o = clear-mates-out led-es x i w in (twice-has-out es es₁ (Some m) p (Some n) q a (i / 2) (o .0), o .1, o .2)
 
   pub erased-length : length (erased-in es₁ m p n q x) ≡ length es
-  erased-length = length-put led-es (x / 2) None ∙ twice-length es es₁ m p n q a
+  erased-length = length-put led-es (x / 2) None ∙ twice-length es es₁ (Some m) p (Some n) q a
 
   pub erased-count : Has es (x / 2) → count (erased-in es₁ m p n q x) + 1 ≡ count es
-  erased-count w = count-clear led-es (x / 2) (twice-has-in es es₁ m p n q a (x / 2) w) ∙ twice-count es es₁ m p n q a
+  erased-count w = count-clear led-es (x / 2) (twice-has-in es es₁ (Some m) p (Some n) q a (x / 2) w) ∙ twice-count es es₁ (Some m) p (Some n) q a
 
   module _ (i : ℕ) (w : Has es (i / 2)) (nx : i ≢ x) (ny : i ≢ mate x) where
     pub erased-still : Has (erased-in es₁ m p n q x) (i / 2)
-    erased-still = clear-mates-in led-es x i nx ny (twice-has-in es es₁ m p n q a (i / 2) w)
+    erased-still = clear-mates-in led-es x i nx ny (twice-has-in es es₁ (Some m) p (Some n) q a (i / 2) w)
 
     same-half : half-in (erased-in es₁ m p n q x) i ≡ half-in led-es i
     same-half = half-put-other led-es (x / 2) i None (other-edge i x nx ny)
 
     pub erased-start : half-in (erased-in es₁ m p n q x) i .start ≡ half-in es i .start
-    erased-start = ap (λ r. r .start) same-half ∙ twice-start es es₁ m p n q a i
+    erased-start = ap (λ r. r .start) same-half ∙ twice-start es es₁ (Some m) p (Some n) q a i
 
     pub erased-owner : half-in (erased-in es₁ m p n q x) i .owner ≡ half-in es₁ i .owner
-    erased-owner = ap (λ r. r .owner) same-half ∙ twice-owner es es₁ m p n q a i
+    erased-owner = ap (λ r. r .owner) same-half ∙ twice-owner es es₁ (Some m) p (Some n) q a i
 
     pub erased-first : p ≢ n → half-in es i .next ≡ m → half-in (erased-in es₁ m p n q x) i .next ≡ p
-    erased-first ne e = ap (λ r. r .next) same-half ∙ twice-first es es₁ m p n q a i w ne e
+    erased-first ne e = ap (λ r. r .next) same-half ∙ twice-first es es₁ (Some m) p (Some n) q a i w (λ d. ne (sym (some-same refl d))) (ap Some (sym e))
 
     pub erased-second : n ≢ m → half-in es i .next ≡ n → half-in (erased-in es₁ m p n q x) i .next ≡ q
-    erased-second ne e = ap (λ r. r .next) same-half ∙ twice-second es es₁ m p n q a i w ne e
+    erased-second ne e = ap (λ r. r .next) same-half ∙ twice-second es es₁ (Some m) p (Some n) q a i w (λ d. ne (sym e ∙ sym (some-same refl d))) (ap Some (sym e))
 
     pub erased-other : half-in es i .next ≢ m → half-in es i .next ≢ n → half-in (erased-in es₁ m p n q x) i .next ≡ half-in es i .next
-    erased-other nm nn = ap (λ r. r .next) same-half ∙ twice-other es es₁ m p n q a i w nm nn
+    erased-other nm nn = ap (λ r. r .next) same-half ∙ twice-other es es₁ (Some m) p (Some n) q a i w (λ d. nm (sym (some-same refl d))) (λ d. nn (sym (some-same refl d)))
 
 -- where the ring of l was emptied, v is lone on it: the loops alone change
 abbrev pub lone-put : Bool → List (Option Loop) → ℕ → ℕ → List (Option Loop)

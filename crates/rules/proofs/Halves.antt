@@ -81,9 +81,6 @@ mate-same h k e = sym (mate-mate h) ∙ ap mate e ∙ mate-mate k
 pub used-mate : (b : Boundary) (h : ℕ) → Used b h → Used b (mate h)
 used-mate b h u = subst (Has (b .edges)) (sym (mate-half h)) u
 
-pub mate-used : (b : Boundary) (h : ℕ) → Used b (mate h) → Used b h
-mate-used b h u = subst (Has (b .edges)) (mate-half h) u
-
 pub used-below : (es : List (Option Edge)) (h : ℕ) → Has es (h / 2) → h < 2 * length es
 used-below es h u = let lt : h / 2 < length es = has-below es (h / 2) u in omega arith
 

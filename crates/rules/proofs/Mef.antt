@@ -26,7 +26,7 @@ use Rattle.rings.proofs.Facts.{walk-label, before, injective}
 use Rattle.rings.proofs.Walks.{on-run?}
 use Rattle.rings.proofs.Euler.{loops-stay, vertices-stay}
 use Rattle.rules.specs.Rules.{Has, Used, turn, Sizes, Named, LoneVertices, Outer, OneShell, Balanced, Sound}
-use Rattle.rules.proofs.Rows.{true-T, not-eqb, unless-none, free-not-has, row-has, row-put-same, row-put-other, length-put, lone-has, none-not-some}
+use Rattle.rules.proofs.Rows.{true-T, not-eqb, unless-none, free-not-has, row-has, row-put-same, row-put-other, length-put, lone-has, none-not-some, some-same}
 use Rattle.rules.proofs.Counts.{count-put-free}
 use Rattle.rules.proofs.Halves.{mate-of-even, mate-of-odd, new-edge, new-even, put-even, put-odd, half-put-other, put-used-even, put-used-odd, put-used-in, put-used-cases, owned-hit, owned-miss, used-mate}
 use Rattle.rules.proofs.Views.{paired, loop-rings, vertex-rings, loop-rings-by, vertex-rings-by, continues-by, next-used-by}
@@ -382,7 +382,7 @@ module _ (b : Boundary) (h j k f l : ℕ) (z : Sizes b) (a : Asked b h j k f l) 
   es₁ = owned-in es (run (next b) 384 h j) l
 
   abbrev es₃ : List (Option Edge)
-  es₃ = led-twice es₁ h (2 * k) j (2 * k + 1)
+  es₃ = led-twice es₁ (Some h) (2 * k) (Some j) (2 * k + 1)
 
   alike : Alike es es₁
   alike = owned-alike es (run (next b) 384 h j) l
@@ -394,10 +394,10 @@ module _ (b : Boundary) (h j k f l : ℕ) (z : Sizes b) (a : Asked b h j k f l) 
   made = mef b h j k f l
 
   length₃ : length es₃ ≡ length es
-  length₃ = twice-length es es₁ h (2 * k) j (2 * k + 1) alike
+  length₃ = twice-length es es₁ (Some h) (2 * k) (Some j) (2 * k + 1) alike
 
   out₃ : (i : ℕ) → Has es₃ i → Has es i
-  out₃ = twice-has-out es es₁ h (2 * k) j (2 * k + 1) alike
+  out₃ = twice-has-out es es₁ (Some h) (2 * k) (Some j) (2 * k + 1) alike
 
   room : k < length es₃
   room = omega (arith, length₃, z .edges)
@@ -407,17 +407,17 @@ module _ (b : Boundary) (h j k f l : ℕ) (z : Sizes b) (a : Asked b h j k f l) 
   old-half i u = half-put-other es₃ k i (Some drawn-edge) (new-edge es k i (a .edge-free) u)
 
   old-owner : (i : ℕ) → Used b i → owner made i ≡ half-in es₁ i .owner
-  old-owner i u = ap (λ r. r .owner) (old-half i u) ∙ twice-owner es es₁ h (2 * k) j (2 * k + 1) alike i
+  old-owner i u = ap (λ r. r .owner) (old-half i u) ∙ twice-owner es es₁ (Some h) (2 * k) (Some j) (2 * k + 1) alike i
 
   leads-h : (i : ℕ) → Used b i → next b i ≡ h → next made i ≡ 2 * k
   leads-h i u e =
-      ap (λ r. r .next) (old-half i u) ∙ twice-first es es₁ h (2 * k) j (2 * k + 1) alike i u (λ q. new-even es k j (a .edge-free) (a .j-used) (sym q)) e
+      ap (λ r. r .next) (old-half i u) ∙ twice-first es es₁ (Some h) (2 * k) (Some j) (2 * k + 1) alike i u (λ q. new-even es k j (a .edge-free) (a .j-used) (some-same refl q)) (ap Some (sym e))
 
   leads-j : (i : ℕ) → Used b i → next b i ≡ j → next made i ≡ 2 * k + 1
-  leads-j i u e = ap (λ r. r .next) (old-half i u) ∙ twice-second es es₁ h (2 * k) j (2 * k + 1) alike i u (λ q. a .apart (sym q)) e
+  leads-j i u e = ap (λ r. r .next) (old-half i u) ∙ twice-second es es₁ (Some h) (2 * k) (Some j) (2 * k + 1) alike i u (λ q. a .apart (some-same refl q ∙ e)) (ap Some (sym e))
 
   leads-on : (i : ℕ) → Used b i → next b i ≢ h → next b i ≢ j → next made i ≡ next b i
-  leads-on i u nh nj = ap (λ r. r .next) (old-half i u) ∙ twice-other es es₁ h (2 * k) j (2 * k + 1) alike i u nh nj
+  leads-on i u nh nj = ap (λ r. r .next) (old-half i u) ∙ twice-other es es₁ (Some h) (2 * k) (Some j) (2 * k + 1) alike i u (λ q. nh (sym (some-same refl q))) (λ q. nj (sym (some-same refl q)))
 
   uses : (i : ℕ) → Used made i → (i ≡ 2 * k) ⊎ ((i ≡ 2 * k + 1) ⊎ Used b i)
   uses i u = elim (put-used-cases es₃ k i drawn-edge u) [
@@ -433,10 +433,10 @@ module _ (b : Boundary) (h j k f l : ℕ) (z : Sizes b) (a : Asked b h j k f l) 
     in-use = uses;
     x-in-use = put-used-even es₃ k drawn-edge room;
     y-in-use = put-used-odd es₃ k drawn-edge room;
-    still-in-use = λ i u. put-used-in es₃ k i drawn-edge (twice-has-in es es₁ h (2 * k) j (2 * k + 1) alike (i / 2) u);
+    still-in-use = λ i u. put-used-in es₃ k i drawn-edge (twice-has-in es es₁ (Some h) (2 * k) (Some j) (2 * k + 1) alike (i / 2) u);
     x-half = put-even es₃ k drawn-edge room;
     y-half = put-odd es₃ k drawn-edge room;
-    old-start = λ i u. ap (λ r. r .start) (old-half i u) ∙ twice-start es es₁ h (2 * k) j (2 * k + 1) alike i;
+    old-start = λ i u. ap (λ r. r .start) (old-half i u) ∙ twice-start es es₁ (Some h) (2 * k) (Some j) (2 * k + 1) alike i;
     to-h = leads-h;
     to-j = leads-j;
     elsewhere = leads-on;
@@ -449,7 +449,7 @@ module _ (b : Boundary) (h j k f l : ℕ) (z : Sizes b) (a : Asked b h j k f l) 
     same-vertices = refl;
     same-shells = refl;
     same-handles = refl;
-    edge-count = count-put-free es₃ k drawn-edge room (λ u. a .edge-free (out₃ k u)) ∙ ap (λ n. n + 1) (twice-count es es₁ h (2 * k) j (2 * k + 1) alike);
+    edge-count = count-put-free es₃ k drawn-edge room (λ u. a .edge-free (out₃ k u)) ∙ ap (λ n. n + 1) (twice-count es es₁ (Some h) (2 * k) (Some j) (2 * k + 1) alike);
     loop-count = count-put-free (b .loops) l (record { face = f; lone = None }) (omega (arith, z .loops)) (a .loop-free);
     face-count = count-put-free (b .faces) f (record { shell = loop-shell b (owner b h); outer = l }) (omega (arith, z .faces)) (a .face-free);
     edge-length = length-put es₃ k (Some drawn-edge) ∙ length₃;

@@ -6,7 +6,7 @@ use mathlib.Core.List.{List}
 use Prim.Native.Nat.{ℕ, _+_, _*_, _-_, _/_, _<_, _≤_}
 use native.Mathlib.Decide.{ℕ-discrete}
 use native.Mathlib.Omega.{arith}
-use lib.Dec.{T, eqb}
+use lib.Dec.{eqb}
 use lib.ListN.{length, set}
 use Rattle.std.specs.Options.{isSome, valueOr}
 use Rattle.std.specs.declared.option.Option.{Option}
@@ -16,8 +16,8 @@ use Rattle.boundary.specs.declared.Refusal.the-variants.{Unused, Taken, Conditi
 use Rattle.boundary.specs.declared.Edge.{Edge}
 use Rattle.boundary.specs.declared.Loop.{Loop}
 use Rattle.boundary.specs.declared.Boundary.{Boundary}
-use Rattle.boundary.specs.Tables.{row, used, count, half-in, half-used, start, next, owner, mate, lone, lone-of, face-of, outer-of, loop-face, face-shell, loop-shell, is-half-place, place-loop, place-vertex}
-use Rattle.boundary.specs.Changes.{with-edges, put-edge, put-lone, clear-loop, led, led-in, led-edge, joined, joined-in, joined-edge}
+use Rattle.boundary.specs.Tables.{row, used, half-in, half-used, start, next, owner, mate, lone, lone-of, face-of, outer-of, loop-face, face-shell, loop-shell, is-half-place, place-loop, place-vertex}
+use Rattle.boundary.specs.Changes.{with-edges, put-edge, put-lone, clear-loop, led, joined, joined-in}
 use Rattle.boundary.specs.Operators.{edge, half-edge, mekr}
 use Rattle.boundary.specs.Refusals.{free, place-used, has-vertex, are-joinable, mekr-refusal}
 use Rattle.rings.specs.Rings.{Rings}
@@ -26,48 +26,16 @@ use Rattle.rings.specs.Euler.{put, swap}
 use Rattle.rings.proofs.Put.{put-same, put-other}
 use Rattle.rings.proofs.Swap.{join-keeps}
 use Rattle.rules.specs.Rules.{Has, Used, turn, Sizes, Named, LoneVertices, Outer, OneShell, Balanced, Sound}
-use Rattle.rules.proofs.Rows.{some-value, true-T, not-eqb, unless-none, free-not-has, has-below, row-put-same, row-put-other, length-put, has-put-other-in, has-put-again, has-clear-in, has-clear-out, used-map, length-mapped, lone-has, none-not-some, some-same}
-use Rattle.rules.proofs.Counts.{count-put-free, count-put-used, count-clear, count-map}
-use Rattle.rules.proofs.Halves.{half-of-even, mate-of-even, mate-of-odd, used-mate, new-edge, new-even, new-odd, put-even, put-odd, half-put-other, put-used-even, put-used-odd, put-used-in, put-used-cases, led-start, led-owner, led-hit, led-miss, joined-start, joined-next, joined-hit, joined-miss}
+use Rattle.rules.proofs.Rows.{some-value, true-T, not-eqb, unless-none, free-not-has, has-below, row-put-same, row-put-other, length-put, has-put-other-in, has-put-again, has-clear-in, has-clear-out, lone-has, none-not-some, some-same}
+use Rattle.rules.proofs.Counts.{count-put-free, count-put-used, count-clear}
+use Rattle.rules.proofs.Halves.{half-of-even, mate-of-even, mate-of-odd, used-mate, new-edge, new-even, new-odd, put-even, put-odd, half-put-other, put-used-even, put-used-odd, put-used-in, put-used-cases, joined-hit, joined-miss}
 use Rattle.rules.proofs.Views.{loop-rings, vertex-rings, next-used-by, loop-rings-by, vertex-rings-by, continues-by}
 use Rattle.rules.proofs.Enter.{EnteredTwo, enter-two-keeps}
-
--- what led to the target leads to x; nothing leads to none
-abbrev pub led-to : List (Option Edge) → Option ℕ → ℕ → List (Option Edge)
-led-to es None x = es
-led-to es (Some a) x = led-in es a x
-
-led-to-used : (es : List (Option Edge)) (t : Option ℕ) (x m : ℕ) → used (led-to es t x) m ≡ used es m
-led-to-used es None x m = refl
-led-to-used es (Some a) x m = used-map (led-edge a x) es m
-
-led-to-length : (es : List (Option Edge)) (t : Option ℕ) (x : ℕ) → length (led-to es t x) ≡ length es
-led-to-length es None x = refl
-led-to-length es (Some a) x = length-mapped (led-edge a x) es
-
-led-to-count : (es : List (Option Edge)) (t : Option ℕ) (x : ℕ) → count (led-to es t x) ≡ count es
-led-to-count es None x = refl
-led-to-count es (Some a) x = count-map (led-edge a x) es
-
-led-to-start : (es : List (Option Edge)) (t : Option ℕ) (x h : ℕ) → half-in (led-to es t x) h .start ≡ half-in es h .start
-led-to-start es None x h = refl
-led-to-start es (Some a) x h = led-start es a x h
-
-led-to-owner : (es : List (Option Edge)) (t : Option ℕ) (x h : ℕ) → half-in (led-to es t x) h .owner ≡ half-in es h .owner
-led-to-owner es None x h = refl
-led-to-owner es (Some a) x h = led-owner es a x h
-
-led-to-hit : (es : List (Option Edge)) (t : Option ℕ) (x h : ℕ) → Has es (h / 2) → t ≡ Some (half-in es h .next) → half-in (led-to es t x) h .next ≡ x
-led-to-hit es None x h u e = absurd (none-not-some refl e)
-led-to-hit es (Some a) x h u e = led-hit es a x h u (some-same e refl)
-
-led-to-miss : (es : List (Option Edge)) (t : Option ℕ) (x h : ℕ) → Has es (h / 2) → t ≢ Some (half-in es h .next) → half-in (led-to es t x) h .next ≡ half-in es h .next
-led-to-miss es None x h u n = refl
-led-to-miss es (Some a) x h u n = led-miss es a x h u (λ e. n (ap Some (sym e)))
+use Rattle.rules.proofs.Led.{Alike, joined-alike, led-twice, twice-has-in, twice-has-out, twice-length, twice-count, twice-start, twice-owner, twice-first, twice-second, twice-other}
 
 -- the edges but the new one, where the ends have the targets p and q and lie on the loops l and m
 abbrev pub table : List (Option Edge) → Option ℕ → Option ℕ → ℕ → ℕ → ℕ → List (Option Edge)
-table es p q l m k = led-to (led-to (joined-in es m l) p (2 * k)) q (2 * k + 1)
+table es p q l m k = led-twice (joined-in es m l) p (2 * k) q (2 * k + 1)
 
 -- the operator in these terms; the ends start at the vertices v and w
 abbrev pub linked : Boundary → Option ℕ → Option ℕ → ℕ → ℕ → ℕ → ℕ → ℕ → Boundary
@@ -146,11 +114,8 @@ module _ (b : Boundary) (p q : Option ℕ) (l m v w k : ℕ) (s : Sound b) (j : 
   abbrev relabelled : List (Option Edge)
   relabelled = joined-in (b .edges) m l
 
-  abbrev once : List (Option Edge)
-  once = led-to relabelled p X
-
   abbrev twice : List (Option Edge)
-  twice = led-to once q Y
+  twice = table (b .edges) p q l m k
 
   x-new : Used b X → ⊥
   x-new u = j .edge-free (subst (Has (b .edges)) (half-of-even k) u)
@@ -158,21 +123,18 @@ module _ (b : Boundary) (p q : Option ℕ) (l m v w k : ℕ) (s : Sound b) (j : 
   x-not-y : X ≢ Y
   x-not-y e = omega arith
 
+  alike : Alike (b .edges) relabelled
+  alike = joined-alike (b .edges) m l
+
   -- the half-edges in use
-  relabelled-in : (h : ℕ) → Used b h → Has relabelled (h / 2)
-  relabelled-in h u = subst T (sym (used-map (joined-edge m l) (b .edges) (h / 2))) u
+  same-length : length twice ≡ length (b .edges)
+  same-length = twice-length (b .edges) relabelled p X q Y alike
 
-  once-in : (h : ℕ) → Used b h → Has once (h / 2)
-  once-in h u = subst T (sym (led-to-used relabelled p X (h / 2))) (relabelled-in h u)
-
-  twice-used : (i : ℕ) → used twice i ≡ used (b .edges) i
-  twice-used i = led-to-used once q Y i ∙ led-to-used relabelled p X i ∙ used-map (joined-edge m l) (b .edges) i
-
-  twice-length : length twice ≡ length (b .edges)
-  twice-length = led-to-length once q Y ∙ led-to-length relabelled p X ∙ length-mapped (joined-edge m l) (b .edges)
+  out : (i : ℕ) → Has twice i → Has (b .edges) i
+  out = twice-has-out (b .edges) relabelled p X q Y alike
 
   below : k < length twice
-  below = subst (λ n. k < n) (sym twice-length) (j .edge-below)
+  below = subst (λ n. k < n) (sym same-length) (j .edge-below)
 
   pub x-used : Used new X
   x-used = put-used-even twice k ends below
@@ -181,12 +143,12 @@ module _ (b : Boundary) (p q : Option ℕ) (l m v w k : ℕ) (s : Sound b) (j : 
   y-used = put-used-odd twice k ends below
 
   pub used-in : (h : ℕ) → Used b h → Used new h
-  used-in h u = put-used-in twice k h ends (subst T (sym (twice-used (h / 2))) u)
+  used-in h u = put-used-in twice k h ends (twice-has-in (b .edges) relabelled p X q Y alike (h / 2) u)
 
   pub used-out : (h : ℕ) → Used new h → (h ≡ X) ⊎ ((h ≡ Y) ⊎ Used b h)
   used-out h u = elim (put-used-cases twice k h ends u) [
     | inl e ↦ inl e
-    | inr more ↦ elim more [ inl e ↦ inr (inl e) | inr old ↦ inr (inr (subst T (twice-used (h / 2)) old)) ]
+    | inr more ↦ elim more [ inl e ↦ inr (inl e) | inr old ↦ inr (inr (out (h / 2) old)) ]
   ]
 
   -- their fields
@@ -212,10 +174,10 @@ module _ (b : Boundary) (p q : Option ℕ) (l m v w k : ℕ) (s : Sound b) (j : 
   there h u = half-put-other twice k h _ (new-edge (b .edges) k h (j .edge-free) u)
 
   start-is : (h : ℕ) → Used b h → start new h ≡ start b h
-  start-is h u = ap (λ e. e .start) (there h u) ∙ led-to-start once q Y h ∙ led-to-start relabelled p X h ∙ joined-start (b .edges) m l h
+  start-is h u = ap (λ e. e .start) (there h u) ∙ twice-start (b .edges) relabelled p X q Y alike h
 
   owner-there : (h : ℕ) → Used b h → owner new h ≡ half-in relabelled h .owner
-  owner-there h u = ap (λ e. e .owner) (there h u) ∙ led-to-owner once q Y h ∙ led-to-owner relabelled p X h
+  owner-there h u = ap (λ e. e .owner) (there h u) ∙ twice-owner (b .edges) relabelled p X q Y alike h
 
   pub owner-hit : (h : ℕ) → Used b h → owner b h ≡ m → owner new h ≡ l
   owner-hit h u e = owner-there h u ∙ joined-hit (b .edges) m l h u e
@@ -226,27 +188,18 @@ module _ (b : Boundary) (p q : Option ℕ) (l m v w k : ℕ) (s : Sound b) (j : 
   next-there : (h : ℕ) → Used b h → next new h ≡ half-in twice h .next
   next-there h u = ap (λ e. e .next) (there h u)
 
-  old-next : (h : ℕ) → half-in relabelled h .next ≡ next b h
-  old-next h = joined-next (b .edges) m l h
-
   -- the ends differ, as they lie on two loops
   two-targets : (a : ℕ) → p ≡ Some a → q ≡ Some a → ⊥
   two-targets a d e = j .apart (sym (j .from .at a d .1) ∙ j .to .at a e .1)
 
   pub led-x : (h : ℕ) → Used b h → p ≡ Some (next b h) → next new h ≡ X
-  led-x h u e = next-there h u ∙ led-to-miss once q Y h (once-in h u) (λ d. x-new (j .to .at X (d ∙ ap Some here) .0)) ∙ here
-    where
-      here : half-in once h .next ≡ X
-      here = led-to-hit relabelled p X h (relabelled-in h u) (e ∙ ap Some (sym (old-next h)))
-
-  once-miss : (h : ℕ) → Used b h → p ≢ Some (next b h) → half-in once h .next ≡ next b h
-  once-miss h u n = led-to-miss relabelled p X h (relabelled-in h u) (λ d. n (d ∙ ap Some (old-next h))) ∙ old-next h
+  led-x h u e = next-there h u ∙ twice-first (b .edges) relabelled p X q Y alike h u (λ d. x-new (j .to .at X d .0)) e
 
   pub led-y : (h : ℕ) → Used b h → q ≡ Some (next b h) → next new h ≡ Y
-  led-y h u e = next-there h u ∙ led-to-hit once q Y h (once-in h u) (e ∙ ap Some (sym (once-miss h u (λ d. two-targets (next b h) d e))))
+  led-y h u e = next-there h u ∙ twice-second (b .edges) relabelled p X q Y alike h u (λ d. two-targets (next b h) d e) e
 
   pub next-is : (h : ℕ) → Used b h → p ≢ Some (next b h) → q ≢ Some (next b h) → next new h ≡ next b h
-  next-is h u n o = next-there h u ∙ led-to-miss once q Y h (once-in h u) (λ d. o (d ∙ ap Some (once-miss h u n))) ∙ once-miss h u n
+  next-is h u n o = next-there h u ∙ twice-other (b .edges) relabelled p X q Y alike h u n o
 
   -- round the loops before they join: the two halves have not yet changed what follows them
   abbrev two : ℕ → ℕ
@@ -418,7 +371,7 @@ module _ (b : Boundary) (p q : Option ℕ) (l m v w k : ℕ) (s : Sound b) (j : 
     shells = s .sizes .shells;
     faces = s .sizes .faces;
     loops = length-put (set (b .loops) l (Some empty)) m None ∙ length-put (b .loops) l (Some empty) ∙ s .sizes .loops;
-    edges = length-put twice k _ ∙ twice-length ∙ s .sizes .edges;
+    edges = length-put twice k _ ∙ same-length ∙ s .sizes .edges;
     vertices = s .sizes .vertices;
   }
 
@@ -542,12 +495,9 @@ module _ (b : Boundary) (p q : Option ℕ) (l m v w k : ℕ) (s : Sound b) (j : 
     ]
   ]
 
-  twice-count : count twice ≡ count (b .edges)
-  twice-count = led-to-count once q Y ∙ led-to-count relabelled p X ∙ count-map (joined-edge m l) (b .edges)
-
   balanced : Balanced new
   balanced =
-      omega (arith, s .balanced, twice-count, count-put-free twice k ends below (λ u. j .edge-free (subst T (twice-used k) u)), count-put-used (b .loops) l empty (j .from .loop-used), count-clear (set (b .loops) l (Some empty)) m (has-put-other-in (b .loops) l m empty (j .to .loop-used)))
+      omega (arith, s .balanced, twice-count (b .edges) relabelled p X q Y alike, count-put-free twice k ends below (λ u. j .edge-free (out k u)), count-put-used (b .loops) l empty (j .from .loop-used), count-clear (set (b .loops) l (Some empty)) m (has-put-other-in (b .loops) l m empty (j .to .loop-used)))
 
   sound : Sound new
   sound = record {
