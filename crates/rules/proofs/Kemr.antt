@@ -68,7 +68,7 @@ pub record Left (b c : Boundary) (x y l : ℕ) : Type 0 where
   pub lone-uncut : next b x ≢ y → lone c l ≡ None
   pub lone-emptied : next b y ≡ x → lone c (owner b x) ≡ Some (start b x)
   pub lone-kept : next b y ≢ x → lone c (owner b x) ≡ lone b (owner b x)
-  pub lone-other : (m : ℕ) → m ≢ l → m ≢ owner b x → lone c m ≡ lone b m
+  pub old-loop : (m : ℕ) → m ≢ l → m ≢ owner b x → row (c .loops) m ≡ row (b .loops) m
   pub same-faces : c .faces ≡ b .faces
   pub same-vertices : c .vertices ≡ b .vertices
   pub same-shells : c .shells ≡ b .shells
@@ -103,7 +103,7 @@ module _ (b c : Boundary) (x y l : ℕ) (s : Sound b) (a : Asked b x y l) (d : L
   x-not-y : x ≢ y
   x-not-y = halves-apart b c x y s (d .gone)
 
-  old-rings : Rings (next b) (Used b) (owner b)
+  pub old-rings : Rings (next b) (Used b) (owner b)
   old-rings = loop-rings b s
 
   old-turns : Rings (turn b) (Used b) (start b)
@@ -118,13 +118,13 @@ module _ (b c : Boundary) (x y l : ℕ) (s : Sound b) (a : Asked b x y l) (d : L
   pub fresh : (i : ℕ) → Used b i → owner b i ≢ l
   fresh i u = not-l (owner b i) (s .named .owner-used i u)
 
-  after-x-used : Used b (next b x)
+  pub after-x-used : Used b (next b x)
   after-x-used = s .named .next-used x (a .x-used)
 
   after-x-owner : owner b (next b x) ≡ ol
   after-x-owner = old-rings .label x (a .x-used)
 
-  after-y-owner : owner b (next b y) ≡ ol
+  pub after-y-owner : owner b (next b y) ≡ ol
   after-y-owner = old-rings .label y y-used ∙ sym (a .together)
 
   pub x-not-self : next b x ≢ x
@@ -159,7 +159,7 @@ module _ (b c : Boundary) (x y l : ℕ) (s : Sound b) (a : Asked b x y l) (d : L
   pub was-owner : (i : ℕ) → On i → owner b i ≡ ol
   was-owner i o = ap (owner b) (sym (o .is)) ∙ walk-label old-rings (o .place) (next b x) after-x-used ∙ after-x-owner
 
-  on-owner : (i : ℕ) → Used b i → i ≢ x → i ≢ y → On i → owner c i ≡ l
+  pub on-owner : (i : ℕ) → Used b i → i ≢ x → i ≢ y → On i → owner c i ≡ l
   on-owner i u nx ny o = d .on-run i u nx ny (in-from-on (next b) 384 (next b x) y (met .steps) i (met .first) few o)
 
   pub off-owner : (i : ℕ) → Used b i → i ≢ x → i ≢ y → (On i → ⊥) → owner c i ≡ owner b i
@@ -233,7 +233,7 @@ module _ (b c : Boundary) (x y l : ℕ) (s : Sound b) (a : Asked b x y l) (d : L
       through-on z (past-first (next b) x (suc n) z (o .place) (o .within) (o .is ∙ way .arrives) nx) ny
 
   -- the half-edge after x is on the run unless the run is empty, and the one after y is not
-  after-x-on : next b x ≢ y → On (next b x)
+  pub after-x-on : next b x ≢ y → On (next b x)
   after-x-on ne = record { place = 0; within = some; is = refl }
     where
       not-zero : met .steps ≢ 0
@@ -242,7 +242,7 @@ module _ (b c : Boundary) (x y l : ℕ) (s : Sound b) (a : Asked b x y l) (d : L
       some : 0 < met .steps
       some = let nz : met .steps ≢ 0 = not-zero in omega arith
 
-  after-y-off : On (next b y) → ⊥
+  pub after-y-off : On (next b y) → ⊥
   after-y-off o = go (o .place) (o .within) (o .is)
     where
       go : (i : ℕ) → i < met .steps → walk (next b) i (next b x) ≡ next b y → ⊥
@@ -256,6 +256,9 @@ module _ (b c : Boundary) (x y l : ℕ) (s : Sound b) (a : Asked b x y l) (d : L
   y-on ne = d .gone .still-in-use (next b y) (s .named .next-used y y-used) ne y-not-self
 
   -- where a vertex is lone
+  pub lone-other : (m : ℕ) → m ≢ l → m ≢ ol → lone c m ≡ lone b m
+  lone-other m nl other = ap lone-of (d .old-loop m nl other)
+
   lone-was : (m v : ℕ) → lone c m ≡ Some v → LoneOn b x y l m v
   lone-was m v e = elim (ℕ-discrete m l) [
     | yes q ↦ elim (ℕ-discrete (next b x) y) [
@@ -263,7 +266,7 @@ module _ (b c : Boundary) (x y l : ℕ) (s : Sound b) (a : Asked b x y l) (d : L
       | no n ↦ absurd (none-not-some (ap (lone c) q ∙ d .lone-uncut n) e)
     ]
     | no ne ↦ elim (ℕ-discrete m ol) [
-      | no other ↦ old ne (sym (d .lone-other m ne other) ∙ e)
+      | no other ↦ old ne (sym (lone-other m ne other) ∙ e)
       | yes q ↦ elim (ℕ-discrete (next b y) x) [
         | yes t ↦ rest q t (some-same (ap (lone c) (sym q) ∙ e) (d .lone-emptied t))
         | no n ↦ old ne (ap (lone b) q ∙ sym (d .lone-kept n) ∙ ap (lone c) (sym q) ∙ e)
@@ -272,7 +275,7 @@ module _ (b c : Boundary) (x y l : ℕ) (s : Sound b) (a : Asked b x y l) (d : L
   ]
 
   -- no lone vertex was on the loop of x
-  not-on-ol : (m v : ℕ) → lone b m ≡ Some v → m ≢ ol
+  pub not-on-ol : (m v : ℕ) → lone b m ≡ Some v → m ≢ ol
   not-on-ol m v e q = s .lone .lone-alone m v x e (a .x-used) (sym q)
 
   new-sizes : Sizes c
@@ -409,12 +412,12 @@ module _ (b c : Boundary) (x y l : ℕ) (s : Sound b) (a : Asked b x y l) (d : L
       | yes q ↦ let z = half-on-l (ap (lone c) (sym q) ∙ e) in (z .0, z .1, z .2 ∙ sym q)
       | no nl ↦ elim (ℕ-discrete m ol) [
         | yes q ↦ let z = half-on-ol (ap (lone c) (sym q) ∙ e) in (z .0, z .1, z .2 ∙ sym q)
-        | no ne ↦ half-on-other m ne (s .lone .else-half-edge m (d .loop-out m u nl) (sym (d .lone-other m nl ne) ∙ e))
+        | no ne ↦ half-on-other m ne (s .lone .else-half-edge m (d .loop-out m u nl) (sym (lone-other m nl ne) ∙ e))
       ]
     ];
     start-or-lone = λ v u. elim (s .lone .start-or-lone v (subst (λ t. Has t v) (d .same-vertices) u)) [
       | inl z ↦ subst Placed (z .2) (placed (z .0) (z .1))
-      | inr m ↦ inr (m .0, d .lone-other (m .0) (not-l (m .0) (lone-has b (m .0) v (m .1))) (not-on-ol (m .0) v (m .1)) ∙ m .1)
+      | inr m ↦ inr (m .0, lone-other (m .0) (not-l (m .0) (lone-has b (m .0) v (m .1))) (not-on-ol (m .0) v (m .1)) ∙ m .1)
     ];
     one-loop = λ m n v e r. one-place m n v (lone-was m v e) (lone-was n v r);
     not-both = λ m v z e u t. none-starts m v z (lone-was m v e) u (sym (start-was z u) ∙ t);
@@ -541,12 +544,8 @@ module _ (b : Boundary) (h l : ℕ) (s : Sound b) (a : Asked b h (mate h) l) (ll
   row-other : (m : ℕ) → m ≢ l → row (with-new b h l) m ≡ row (b .loops) m
   row-other m ne = row-put-other (b .loops) l m (Some (new-loop b h)) ne
 
-  -- a loop but that of h is as it is with the new one
-  lone-not-own : (m : ℕ) → m ≢ owner b h → lone (plain b h y l) m ≡ lone-of (row (with-new b h l) m)
-  lone-not-own m ne = ap lone-of (lone-put-other (back b h y) (with-new b h l) (owner b h) (start b h) m ne)
-
   lone-new : lone (plain b h y l) l ≡ cut-off b h
-  lone-new = lone-not-own l (λ e. own-not-l (sym e)) ∙ ap lone-of row-l
+  lone-new = ap lone-of (lone-put-other (back b h y) (with-new b h l) (owner b h) (start b h) l (λ e. own-not-l (sym e)) ∙ row-l)
 
   face-same : (m : ℕ) → loop-face (plain b h y l) m ≡ face-of (row (with-new b h l) m)
   face-same m = lone-put-face (back b h y) (with-new b h l) (owner b h) (start b h) m own-still
@@ -571,7 +570,7 @@ module _ (b : Boundary) (h l : ℕ) (s : Sound b) (a : Asked b h (mate h) l) (ll
     lone-uncut = λ ne. lone-new ∙ cond-false (eqb (next b h) y) (Some (start b y)) None (ne-eqb (next b h) y ne);
     lone-emptied = λ e. lone-put-true (back b h y) (with-new b h l) (owner b h) (start b h) own-still (eq-eqb (next b y) h e);
     lone-kept = λ ne. ap lone-of (lone-put-false (back b h y) (with-new b h l) (owner b h) (start b h) (owner b h) (ne-eqb (next b y) h ne) ∙ row-other (owner b h) own-not-l);
-    lone-other = λ m nl no. lone-not-own m no ∙ ap lone-of (row-other m nl);
+    old-loop = λ m nl no. lone-put-other (back b h y) (with-new b h l) (owner b h) (start b h) m no ∙ row-other m nl;
     same-faces = refl;
     same-vertices = refl;
     same-shells = refl;

@@ -11,7 +11,7 @@ use Rattle.boundary.specs.Refusals.{kemr-refusal}
 use Rattle.rules.specs.Rules.{Used, Sound}
 use Rattle.rules.specs.RingLaws.{leads-to, GoesRound, RingOf, Along, Else, KemrLaw}
 use Rattle.rules.proofs.Erase.{past-on}
-use Rattle.rules.proofs.Kemr.{Asked, asked, Left, fresh, was-owner, off-owner, owner-was, was-used, not-x, not-y, x-not-self, y-not-self, plain, kemr-is, is-left}
+use Rattle.rules.proofs.Kemr.{Asked, asked, Left, fresh, was-owner, off-owner, owner-was, was-used, not-x, not-y, x-not-self, y-not-self, plain, kemr-is, is-left, lone-other}
 use Rattle.rules.proofs.RingLists.{in-first, in-rest, in-left, in-right, in-parts, in-behind, in?, none-of-two, once-left, once-right, once-apart, first-or, leads-first, leads-rest, leads-left, leads-right, Kept, ring-kept}
 use Rattle.rules.proofs.RingRuns.{run-list}
 use Rattle.rules.proofs.RingsLeft.{leads-without}
@@ -143,7 +143,7 @@ module _ (b c : Boundary) (x y l : ℕ) (s : Sound b) (a : Asked b x y l) (d : L
   others-stay : Else b c (owner b x ∷ l ∷ [])
   others-stay = record {
     rings = λ m hs n. let o = none-of-two (owner b x) l m n in ring-kept b c m hs (kept m (o .0) (o .1));
-    lones = λ m n. let o = none-of-two (owner b x) l m n in d .lone-other m (o .1) (o .0);
+    lones = λ m n. let o = none-of-two (owner b x) l m n in lone-other b c x y l s a d m (o .1) (o .0);
   }
 
 pub kemr-law : (b : Boundary) (h l : ℕ) → Sound b → h < 384 → l < 96 → kemr-refusal b h l ≡ None → KemrLaw b h l

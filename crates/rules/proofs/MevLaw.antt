@@ -1,7 +1,7 @@
 -- A new edge and a new vertex come into a ring just before their place, or are the whole ring at a lone vertex, and the other rings stay.
 use mathlib.Core.Path.{_≡_, refl, sym, ap, subst, _∙_}
 use mathlib.Core.Logic.{_≢_, inl, inr}
-use mathlib.Core.Bool.{true, false, cond}
+use mathlib.Core.Bool.{cond}
 use mathlib.Core.List.{List, [], _∷_}
 use Prim.Native.Nat.{ℕ, _+_, _*_, _-_, _<_}
 use native.Mathlib.Omega.{arith}
@@ -9,10 +9,9 @@ use Rattle.std.specs.Options.{valueOr}
 use Rattle.std.specs.shelf.Lists.{Has as In}
 use Rattle.std.specs.declared.option.Option.{Option}
 use Rattle.std.specs.declared.option.Option.the-variants.{None, Some}
-use Rattle.std.proofs.shelf.Tests.{lt-ltb, le-ltb}
 use Rattle.boundary.specs.declared.Point.{Point}
 use Rattle.boundary.specs.declared.Boundary.{Boundary}
-use Rattle.boundary.specs.Tables.{start, next, owner, lone, lone-of, is-half-place}
+use Rattle.boundary.specs.Tables.{start, next, owner, lone, lone-of}
 use Rattle.boundary.specs.Operators.{mev, mev-before, mev-lone}
 use Rattle.boundary.specs.Refusals.{mev-refusal}
 use Rattle.rules.specs.Rules.{Has, Used, Sound}
@@ -23,6 +22,7 @@ use Rattle.rules.proofs.MevBefore.{next-even, next-odd, next-hit, next-miss, n
 use Rattle.rules.proofs.MevLone.{next-even as lone-even, next-odd as lone-odd, next-old, new-edge-is as lone-edge-is, row-other}
 use Rattle.rules.proofs.Mev.{mev-free}
 use Rattle.rules.proofs.RingLists.{in-none, in-first, in-rest, in-cases, in-not-first, leads-led, Kept, ring-kept}
+use Rattle.rules.proofs.Accepted.{half-place, lone-place, lone-loop}
 
 -- the half-edges of c are those of b and the two of the edge k, on the loop l
 module _ (b c : Boundary) (k w v l : ℕ) (new : NewEdge b (c .edges) k w v l) where
@@ -117,16 +117,7 @@ module _ (b : Boundary) (l k v : ℕ) (p : Point) (s : Sound b) (k-small : k < 1
   }
 
 -- which of the two the operator is
-pub half-place : (a : ℕ) → a < 384 → is-half-place a ≡ true
-half-place a lt = lt-ltb a 512 (omega arith)
-
-pub lone-place : (a l : ℕ) → a ≡ 512 + l → is-half-place a ≡ false
-lone-place a l e = le-ltb a 512 (omega arith)
-
-pub lone-loop : (a l : ℕ) → a ≡ 512 + l → a - 512 ≡ l
-lone-loop a l e = omega arith
-
-pub lone-valued : (o : Option ℕ) (v : ℕ) → o ≡ Some v → o ≡ Some (valueOr o 0)
+lone-valued : (o : Option ℕ) (v : ℕ) → o ≡ Some v → o ≡ Some (valueOr o 0)
 lone-valued o v e = e ∙ ap (λ r. Some (valueOr r 0)) (sym e)
 
 mev-half : (b : Boundary) (a k v : ℕ) (p : Point) → a < 384 → mev b a k v p ≡ mev-before b a k v p

@@ -1,5 +1,5 @@
 -- An edge drawn across a loop is undone by erasing it, to the same boundary.
-use mathlib.Core.Path.{_≡_, sym, ap, subst, _∙_}
+use mathlib.Core.Path.{_≡_, sym, ap, subst, _∙_, refl}
 use mathlib.Core.Logic.{_≢_, inl, inr}
 use mathlib.Core.Bool.{Bool, false}
 use mathlib.Core.List.{List}
@@ -9,20 +9,21 @@ use native.Mathlib.Omega.{arith}
 use lib.Dec.{eqb}
 use lib.ListN.{set}
 use Rattle.std.specs.declared.option.Option.{Option}
-use Rattle.std.specs.declared.option.Option.the-variants.{None}
+use Rattle.std.specs.declared.option.Option.the-variants.{None, Some}
 use Rattle.std.proofs.shelf.Tests.{ne-eqb, and-right}
 use Rattle.boundary.specs.declared.Edge.{Edge}
 use Rattle.boundary.specs.declared.Boundary.{Boundary}
 use Rattle.boundary.specs.Tables.{half-in, start, next, owner, mate, face-of, loop-face, loop-shell}
-use Rattle.boundary.specs.Changes.{clear-face, clear-loop, clear-edge, emptied, led, led-edge, led-in, joined, joined-edge, joined-in}
+use Rattle.boundary.specs.Changes.{clear-face, clear-loop, clear-edge, emptied, led, joined, joined-in}
 use Rattle.boundary.specs.Operators.{past, mef, kef}
 use Rattle.boundary.specs.Refusals.{mef-refusal}
 use Rattle.rules.specs.Rules.{Has, Used, Sound}
-use Rattle.rules.proofs.Rows.{no-row, has-map-in, has-map-out, length-mapped}
-use Rattle.rules.proofs.Halves.{half-of-even, half-of-odd, mate-of-odd, new-even, new-odd, led-start, led-owner, led-hit, led-miss, joined-start, joined-next, joined-hit, joined-miss}
+use Rattle.rules.proofs.Rows.{no-row, some-same}
+use Rattle.rules.proofs.Halves.{half-of-even, half-of-odd, mate-of-odd, new-even, new-odd, joined-hit, joined-miss}
 use Rattle.rules.proofs.Erase.{past-on}
 use Rattle.rules.proofs.Mef.{Asked, asked, Made, has-made, on?, on-owner, off-owner, was-owner, fresh}
 use Rattle.rules.proofs.Undo.{put-back, put-clear, row-by-halves, same-half}
+use Rattle.rules.proofs.Led.{Alike, joined-alike, led-twice, twice-has-in, twice-has-out, twice-length, twice-start, twice-owner, twice-first, twice-second, twice-other}
 
 -- the operator with what it reads of the boundary handed to it
 abbrev kef-parts : Bool → Boundary → ℕ → ℕ → ℕ → ℕ → ℕ → ℕ → ℕ → ℕ → ℕ → Boundary
@@ -44,25 +45,16 @@ module _ (b c : Boundary) (h j k f l : ℕ) (s : Sound b) (a : Asked b h j k f l
   abbrev one : List (Option Edge)
   one = joined-in (c .edges) l (owner b h)
 
-  abbrev two : List (Option Edge)
-  two = led-in one x j
-
   abbrev three : List (Option Edge)
-  three = led-in two y h
+  three = led-twice one (Some x) j (Some y) h
 
-  used-one : (i : ℕ) → Used b i → Has one (i / 2)
-  used-one i u = has-map-in (joined-edge l (owner b h)) (c .edges) (i / 2) (d .still-in-use i u)
-
-  used-two : (i : ℕ) → Used b i → Has two (i / 2)
-  used-two i u = has-map-in (led-edge x j) one (i / 2) (used-one i u)
-
-  used-three : (i : ℕ) → Used b i → Has three (i / 2)
-  used-three i u = has-map-in (led-edge y h) two (i / 2) (used-two i u)
+  alike : Alike (c .edges) one
+  alike = joined-alike (c .edges) l (owner b h)
 
   -- an edge that is left was one of b
   edge-was : (i : ℕ) → i ≢ k → Has three i → Has (b .edges) i
   edge-was i ne u =
-      let v : Has (c .edges) i = has-map-out (joined-edge l (owner b h)) (c .edges) i (has-map-out (led-edge x j) one i (has-map-out (led-edge y h) two i u)) in
+      let v : Has (c .edges) i = twice-has-out (c .edges) one (Some x) j (Some y) h alike i u in
       elim (d .in-use (2 * i) (subst (Has (c .edges)) (sym (half-of-even i)) v)) [
         | inl e ↦ absurd (ne (omega arith))
         | inr more ↦ elim more [
@@ -72,10 +64,10 @@ module _ (b c : Boundary) (h j k f l : ℕ) (s : Sound b) (a : Asked b h j k f l
       ]
 
   start-back : (i : ℕ) → Used b i → half-in three i .start ≡ start b i
-  start-back i u = led-start two y h i ∙ led-start one x j i ∙ joined-start (c .edges) l (owner b h) i ∙ d .old-start i u
+  start-back i u = twice-start (c .edges) one (Some x) j (Some y) h alike i ∙ d .old-start i u
 
   owner-back : (i : ℕ) → Used b i → half-in three i .owner ≡ owner b i
-  owner-back i u = led-owner two y h i ∙ led-owner one x j i ∙ elim (on? b c h j k y x f l s a d i) [
+  owner-back i u = twice-owner (c .edges) one (Some x) j (Some y) h alike i ∙ elim (on? b c h j k y x f l s a d i) [
     | yes o ↦
         joined-hit (c .edges) l (owner b h) i (d .still-in-use i u) (on-owner b c h j k y x f l s a d i u o) ∙ sym (was-owner b c h j k y x f l s a d i o)
     | no n ↦
@@ -83,33 +75,29 @@ module _ (b c : Boundary) (h j k f l : ℕ) (s : Sound b) (a : Asked b h j k f l
         joined-miss (c .edges) l (owner b h) i (d .still-in-use i u) (λ e. fresh b c h j k y x f l s a d i u (sym same ∙ e)) ∙ same
   ]
 
-  next-one : (i : ℕ) → half-in one i .next ≡ next c i
-  next-one i = joined-next (c .edges) l (owner b h) i
-
   next-back : (i : ℕ) → Used b i → half-in three i .next ≡ next b i
   next-back i u = elim (ℕ-discrete (next b i) h) [
     | yes e ↦
-        let at-one : half-in one i .next ≡ y = next-one i ∙ d .to-h i u e in
-        let at-two : half-in two i .next ≡ y = led-miss one x j i (used-one i u) (λ q. even-not-odd (sym at-one ∙ q)) ∙ at-one in
-        led-hit two y h i (used-two i u) at-two ∙ sym e
+        let at : next c i ≡ y = d .to-h i u e in
+        twice-second (c .edges) one (Some x) j (Some y) h alike i now (λ q. even-not-odd (sym at ∙ sym (some-same refl q))) (ap Some (sym at)) ∙ sym e
     | no nh ↦ elim (ℕ-discrete (next b i) j) [
-      | yes e ↦
-          let at-two : half-in two i .next ≡ j = led-hit one x j i (used-one i u) (next-one i ∙ d .to-j i u e) in
-          led-miss two y h i (used-two i u) (λ q. new-even (b .edges) k j (a .edge-free) (a .j-used) (sym at-two ∙ q)) ∙ at-two ∙ sym e
+      | yes e ↦ twice-first (c .edges) one (Some x) j (Some y) h alike i now (λ q. new-even (b .edges) k j (a .edge-free) (a .j-used) (sym (some-same refl q))) (ap Some (sym (d .to-j i u e))) ∙ sym e
       | no nj ↦
-          let at-one : half-in one i .next ≡ next b i = next-one i ∙ d .elsewhere i u nh nj in
+          let at : next c i ≡ next b i = d .elsewhere i u nh nj in
           let after = s .named .next-used i u in
-          let at-two : half-in two i .next ≡ next b i = led-miss one x j i (used-one i u) (λ q. new-odd (b .edges) k (next b i) (a .edge-free) after (sym at-one ∙ q)) ∙ at-one in
-          led-miss two y h i (used-two i u) (λ q. new-even (b .edges) k (next b i) (a .edge-free) after (sym at-two ∙ q)) ∙ at-two
+          twice-other (c .edges) one (Some x) j (Some y) h alike i now (λ q. new-odd (b .edges) k (next b i) (a .edge-free) after (sym at ∙ sym (some-same refl q))) (λ q. new-even (b .edges) k (next b i) (a .edge-free) after (sym at ∙ sym (some-same refl q))) ∙ at
     ]
   ]
     where
+      now : Used c i
+      now = d .still-in-use i u
+
       even-not-odd : y ≢ x
       even-not-odd e = omega arith
 
   edges-back : set three k None ≡ b .edges
-  edges-back = put-back (b .edges) three k None (length-mapped (led-edge y h) two ∙ length-mapped (led-edge x j) one ∙ length-mapped (joined-edge l (owner b h)) (c .edges) ∙ d .edge-length) (no-row (b .edges) k (a .edge-free)) (λ i ne.
-      row-by-halves three (b .edges) i (edge-was i ne) (λ u. subst (Has three) (half-of-even i) (used-three (2 * i) (subst (Has (b .edges)) (sym (half-of-even i)) u))) (λ g q u. same-half _ _ (start-back g u) (next-back g u) (owner-back g u)))
+  edges-back = put-back (b .edges) three k None (twice-length (c .edges) one (Some x) j (Some y) h alike ∙ d .edge-length) (no-row (b .edges) k (a .edge-free)) (λ i ne.
+      row-by-halves three (b .edges) i (edge-was i ne) (λ u. subst (Has three) (half-of-even i) (twice-has-in (c .edges) one (Some x) j (Some y) h alike (2 * i / 2) (d .still-in-use (2 * i) (subst (Has (b .edges)) (sym (half-of-even i)) u)))) (λ g q u. same-half _ _ (start-back g u) (next-back g u) (owner-back g u)))
 
   -- what the operator reads
   next-x : next c x ≡ h
