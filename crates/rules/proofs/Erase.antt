@@ -1,6 +1,6 @@
 -- An edge with the halves x and y is erased: what a step past both leads to, the rings round the vertices, and the tables of edges and loops.
 use mathlib.Core.Path.{_≡_, refl, sym, ap, subst, _∙_}
-use mathlib.Core.Logic.{_≢_}
+use mathlib.Core.Logic.{_≢_, inl}
 use mathlib.Core.Bool.{Bool, true, false, cond}
 use mathlib.Core.List.{List}
 use Prim.Native.Nat.{ℕ, _+_, _/_}
@@ -26,7 +26,7 @@ use Rattle.rules.specs.Rules.{Has, Used, turn, Sound}
 use Rattle.rules.proofs.Rows.{has-below, has-put-other-in, has-put-again, row-put-same, row-put-other, length-put, some-same}
 use Rattle.rules.proofs.Counts.{count-put-used, count-clear}
 use Rattle.rules.proofs.Halves.{mate-apart, other-edge, half-put-other, clear-mates-in, clear-mates-out}
-use Rattle.rules.proofs.Views.{paired, loop-rings, vertex-rings}
+use Rattle.rules.proofs.Views.{paired, loop-rings, vertex-rings, Placed}
 use Rattle.rules.proofs.Led.{Alike, led-twice, twice-has-in, twice-has-out, twice-length, twice-count, twice-start, twice-owner, twice-first, twice-second, twice-other}
 
 -- where a step leads that passes both x and y, once they have exchanged what follows them
@@ -123,6 +123,20 @@ module _ (b c : Boundary) (x y : ℕ) (s : Sound b) (d : Gone b c x y) where
           | no my ↦ d .elsewhere i u nx ny mx my ∙ sym (past-none r x y (d .x-used) (d .y-used) halves-apart i u nx ny mx my)
         ]
       ]
+
+  -- a half-edge that is left starts where it did
+  pub start-was : (i : ℕ) → Used c i → start c i ≡ start b i
+  start-was i u = let o = d .in-use i u in d .old-start i (o .0) (o .1) (o .2)
+
+  -- each start is a start or lone, if those of x and y are
+  pub starts-placed : Placed c (start b x) → Placed c (start b y) → (z : ℕ) → Used b z → Placed c (start b z)
+  starts-placed at-x at-y z u = elim (ℕ-discrete z x) [
+    | yes e ↦ subst (λ i. Placed c (start b i)) (sym e) at-x
+    | no nx ↦ elim (ℕ-discrete z y) [
+      | yes e ↦ subst (λ i. Placed c (start b i)) (sym e) at-y
+      | no ny ↦ inl (z, d .still-in-use z u nx ny, d .old-start z u nx ny)
+    ]
+  ]
 
   pub turns-left : Rings (turn c) (Used c) (start c)
   turns-left = vertices-left erased (paired b) (vertex-rings b s) (d .old-start)

@@ -20,7 +20,7 @@ use Rattle.rules.specs.Rules.{Has, Used, turn, Sizes, Named, LoneVertices, Out
 use Rattle.rules.proofs.Rows.{has-apart, has-put-same, has-put-other-in, has-put-cases, length-put}
 use Rattle.rules.proofs.Counts.{count-put-free}
 use Rattle.rules.proofs.Halves.{mate-of-even, mate-of-odd, used-mate}
-use Rattle.rules.proofs.Views.{loop-rings-by, vertex-rings-by, continues-by}
+use Rattle.rules.proofs.Views.{loop-rings-by, vertex-rings-by, continues-by, HasHalf, Placed}
 
 abbrev pub grown : Boundary → List (Option Loop) → List (Option Edge) → ℕ → Point → Boundary
 grown b ls es v p = record { shells = b .shells; faces = b .faces; loops = ls; edges = es; vertices = set (b .vertices) v (Some p); handles = b .handles }
@@ -114,7 +114,7 @@ module _ (b : Boundary) (ls : List (Option Loop)) (es : List (Option Edge)) (k w
     ]
   ]
 
-  else-half-now : (m : ℕ) → Has ls m → lone c m ≡ None → (j : ℕ) × Used c j × (owner c j ≡ m)
+  else-half-now : (m : ℕ) → Has ls m → lone c m ≡ None → HasHalf c m
   else-half-now m h q = elim (o .lone-none m q) [
     | inl a ↦ (2 * k, e .used-even, e .owner-even ∙ sym a)
     | inr a ↦
@@ -122,16 +122,13 @@ module _ (b : Boundary) (ls : List (Option Loop)) (es : List (Option Edge)) (k w
         (x .0, e .used-in (x .0) (x .1), e .owner-old (x .0) (x .1) ∙ x .2)
   ]
 
-  abbrev Placed : ℕ → Type 0
-  Placed u = ((j : ℕ) × Used c j × (start c j ≡ u)) ⊎ ((m : ℕ) × (lone c m ≡ Some u))
-
-  lone-placed : (m u : ℕ) → lone b m ≡ Some u → Placed u
+  lone-placed : (m u : ℕ) → lone b m ≡ Some u → Placed c u
   lone-placed m u q = elim (o .lone-still m u q) [
     | inl a ↦ inl (2 * k, e .used-even, e .start-even ∙ sym a)
     | inr a ↦ inr (m, a)
   ]
 
-  placed : (u : ℕ) → Has (c .vertices) u → Placed u
+  placed : (u : ℕ) → Has (c .vertices) u → Placed c u
   placed u h = elim (has-put-cases (b .vertices) v u p h) [
     | inl a ↦ inl (2 * k + 1, e .used-odd, e .start-odd ∙ sym a)
     | inr old ↦ elim (s .lone .start-or-lone u old) [

@@ -30,9 +30,9 @@ use Rattle.rules.proofs.Rows.{true-T, not-eqb, unless-none, row-put-other, len
 use Rattle.rules.proofs.Counts.{count-clear}
 use Rattle.rules.proofs.Fields.{one-loop-in}
 use Rattle.rules.proofs.Halves.{mate-mate, mate-apart, used-mate, joined-owner}
-use Rattle.rules.proofs.Views.{loop-rings, vertex-rings, loop-rings-by, vertex-rings-by, continues-by, next-used-by}
+use Rattle.rules.proofs.Views.{loop-rings, vertex-rings, loop-rings-by, vertex-rings-by, continues-by, next-used-by, HasHalf, Placed}
 use Rattle.rules.proofs.Led.{Alike, joined-alike}
-use Rattle.rules.proofs.Erase.{past-on, past-over, Gone, halves-apart, erased, turns-left, after-x, after-y, erased-in, erased-in-use, erased-length, erased-count, erased-still, erased-start, erased-owner, erased-first, erased-second, erased-other, lone-put, emptied-is, lone-put-has-in, lone-put-has-out, lone-put-other, lone-put-face, lone-put-true, lone-put-false, lone-put-length, lone-put-count}
+use Rattle.rules.proofs.Erase.{start-was as erased-start-was, starts-placed, past-on, past-over, Gone, halves-apart, erased, turns-left, after-x, after-y, erased-in, erased-in-use, erased-length, erased-count, erased-still, erased-start, erased-owner, erased-first, erased-second, erased-other, lone-put, emptied-is, lone-put-has-in, lone-put-has-out, lone-put-other, lone-put-face, lone-put-true, lone-put-false, lone-put-length, lone-put-count}
 
 -- what an accepted edit says of the half-edge x and its mate y
 pub record Asked (b : Boundary) (x y : ℕ) : Type 0 where
@@ -147,7 +147,7 @@ module _ (b c : Boundary) (x y : ℕ) (s : Sound b) (a : Asked b x y) (d : Left 
   stays i u nx ny = d .gone .still-in-use i u ny nx
 
   start-was : (i : ℕ) → Used c i → start c i ≡ start b i
-  start-was i u = d .gone .old-start i (was-used i u) (not-y i u) (not-x i u)
+  start-was = erased-start-was b c y x s (d .gone)
 
   pub owner-was : (i : ℕ) → Used c i → ((owner b i ≡ lx) × (owner c i ≡ ly)) ⊎ ((owner b i ≢ lx) × (owner c i ≡ owner b i))
   owner-was i u = elim (ℕ-discrete (owner b i) lx) [
@@ -257,7 +257,7 @@ module _ (b c : Boundary) (x y : ℕ) (s : Sound b) (a : Asked b x y) (d : Left 
   owner-other i u ne = d .joins i (was-used i u) (not-x i u) (not-y i u) ∙ lab-other i ne
 
   -- the loop of y has a half-edge, unless both rings were emptied
-  half-on-ly : (Alone b x y → ⊥) → (z : ℕ) × Used c z × (owner c z ≡ ly)
+  half-on-ly : (Alone b x y → ⊥) → HasHalf c ly
   half-on-ly n = elim (ℕ-discrete (next b x) x) [
     | no ne ↦ (next b x, x-on ne, owner-lx (next b x) (x-on ne) after-x-owner)
     | yes p ↦ elim (ℕ-discrete (next b y) y) [
@@ -266,22 +266,19 @@ module _ (b c : Boundary) (x y : ℕ) (s : Sound b) (a : Asked b x y) (d : Left 
     ]
   ]
 
-  half-on : (m : ℕ) → m ≢ lx → m ≢ ly → ((z : ℕ) × Used b z × (owner b z ≡ m)) → (z : ℕ) × Used c z × (owner c z ≡ m)
+  half-on : (m : ℕ) → m ≢ lx → m ≢ ly → HasHalf b m → HasHalf c m
   half-on m nx ny o =
       let u : Used c (o .0) = stays (o .0) (o .1) (λ e. nx (sym (o .2) ∙ ap (owner b) e)) (λ e. ny (sym (o .2) ∙ ap (owner b) e)) in
       (o .0, u, owner-other (o .0) u (λ e. nx (sym (o .2) ∙ e)) ∙ o .2)
 
   -- a vertex is a start or lone
-  abbrev Placed : ℕ → Type 0
-  Placed v = ((z : ℕ) × Used c z × (start c z ≡ v)) ⊎ ((m : ℕ) × (lone c m ≡ Some v))
-
   end-of-x : start b (next b x) ≡ start b y
   end-of-x = after-y b c y x s (d .gone)
 
   end-of-y : start b (next b y) ≡ start b x
   end-of-y = after-x b c y x s (d .gone)
 
-  at-x : Placed (start b x)
+  at-x : Placed c (start b x)
   at-x = elim (ℕ-discrete (next b y) y) [
     | no ne ↦ inl (next b y, y-on ne, start-was (next b y) (y-on ne) ∙ end-of-y)
     | yes q ↦ elim (ℕ-discrete (next b x) x) [
@@ -290,19 +287,10 @@ module _ (b c : Boundary) (x y : ℕ) (s : Sound b) (a : Asked b x y) (d : Left 
     ]
   ]
 
-  at-y : Placed (start b y)
+  at-y : Placed c (start b y)
   at-y = elim (ℕ-discrete (next b x) x) [
     | no ne ↦ inl (next b x, x-on ne, start-was (next b x) (x-on ne) ∙ end-of-x)
-    | yes p ↦ subst Placed (ap (start b) (sym p) ∙ end-of-x) at-x
-  ]
-
-  placed : (z : ℕ) → Used b z → Placed (start b z)
-  placed z u = elim (ℕ-discrete z x) [
-    | yes e ↦ subst (λ i. Placed (start b i)) (sym e) at-x
-    | no nx ↦ elim (ℕ-discrete z y) [
-      | yes e ↦ subst (λ i. Placed (start b i)) (sym e) at-y
-      | no ny ↦ inl (z, stays z u nx ny, d .gone .old-start z u ny nx)
-    ]
+    | yes p ↦ subst (Placed c) (ap (start b) (sym p) ∙ end-of-x) at-x
   ]
 
   -- where both rings were emptied, no other half-edge starts where x does
@@ -331,7 +319,7 @@ module _ (b c : Boundary) (x y : ℕ) (s : Sound b) (a : Asked b x y) (d : Left 
           (z .0, z .1, z .2 ∙ sym q)
     ];
     start-or-lone = λ v u. elim (s .lone .start-or-lone v (subst (λ t. Has t v) (d .same-vertices) u)) [
-      | inl z ↦ subst Placed (z .2) (placed (z .0) (z .1))
+      | inl z ↦ subst (Placed c) (z .2) (starts-placed b c y x s (d .gone) at-y at-x (z .0) (z .1))
       | inr m ↦ inr (m .0, d .lone-other (m .0) (not-on-lx (m .0) v (m .1)) (not-on-ly (m .0) v (m .1)) ∙ m .1)
     ];
     one-loop = λ m n v e r. elim (lone-was m v e .1) [

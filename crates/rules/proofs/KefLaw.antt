@@ -12,7 +12,7 @@ use Rattle.rules.specs.Rules.{Used, Sound}
 use Rattle.rules.specs.RingLaws.{leads-to, GoesRound, RingOf, Along, Else, KefLaw}
 use Rattle.rules.proofs.Kef.{Asked, asked, Left, was-used, not-x, not-y, stays, owner-was, owner-lx, owner-other, plain, kef-is, is-left}
 use Rattle.rules.proofs.RingLists.{in-first, in-rest, in-left, in-right, in-parts, in-behind, none-of-two, once-append, first-or, leads-append, leads-rest, Kept, ring-kept}
-use Rattle.rules.proofs.RingsLeft.{leads-without, past-first}
+use Rattle.rules.proofs.RingsLeft.{leads-without, past-first, kept-without}
 
 module _ (b c : Boundary) (x y : ℕ) (s : Sound b) (a : Asked b x y) (d : Left b c x y) where
   module _ (l m : ℕ) (xs ys : List ℕ) (rx : RingOf b l (x ∷ xs)) (ry : RingOf b m (y ∷ ys)) where
@@ -92,26 +92,10 @@ module _ (b c : Boundary) (x y : ℕ) (s : Sound b) (a : Asked b x y) (d : Left 
 
   -- the other loops
   module _ (m : ℕ) (nx : m ≢ owner b x) (ny : m ≢ owner b y) where
-    apart-from : (z : ℕ) → m ≢ owner b z → (i : ℕ) → owner b i ≡ m → i ≢ z
-    apart-from z n i e t = n (sym e ∙ ap (owner b) t)
-
-    still : (i : ℕ) → Used b i → owner b i ≡ m → Used c i
-    still i u e = stays b c x y s a d i u (apart-from x nx i e) (apart-from y ny i e)
-
-    after-on : (i : ℕ) → Used b i → owner b i ≡ m → owner b (next b i) ≡ m
-    after-on i u e = s .loops .stays i u ∙ e
-
-    owner-out : (i : ℕ) → Used c i → owner c i ≡ m → owner b i ≡ m
-    owner-out i u e = elim (owner-was b c x y s a d i u) [ inl o ↦ absurd (ny (sym e ∙ o .1)) | inr o ↦ sym (o .1) ∙ e ]
-
     kept : Kept b c m
-    kept = record {
-      used-in = still;
-      owner-in = λ i u e. owner-other b c x y s a d i (still i u e) (λ t. nx (sym e ∙ t)) ∙ e;
-      next-in = λ i u e. d .gone .elsewhere i u (apart-from y ny i e) (apart-from x nx i e) (apart-from y ny (next b i) (after-on i u e)) (apart-from x nx (next b i) (after-on i u e));
-      used-out = λ i u e. was-used b c x y s a d i u;
-      owner-out = owner-out;
-    }
+    kept = kept-without b c y x m s (d .gone) ny nx
+        (λ i u iy ix e. owner-other b c x y s a d i (stays b c x y s a d i u ix iy) (λ t. nx (sym e ∙ t)) ∙ e)
+        (λ i u e. elim (owner-was b c x y s a d i u) [ inl o ↦ absurd (ny (sym e ∙ o .1)) | inr o ↦ sym (o .1) ∙ e ])
 
   others-stay : Else b c (owner b x ∷ owner b y ∷ [])
   others-stay = record {

@@ -32,10 +32,10 @@ use Rattle.rules.specs.Rules.{Has, Used, turn, Sizes, Named, LoneVertices, Out
 use Rattle.rules.proofs.Rows.{true-T, unless-none, free-not-has, row-put-same, row-put-other, length-put, has-put-same, has-put-other-in, has-put-cases, lone-has, none-not-some, some-same}
 use Rattle.rules.proofs.Counts.{count-put-free}
 use Rattle.rules.proofs.Halves.{mate-mate, mate-apart, used-mate, owned-hit, owned-miss}
-use Rattle.rules.proofs.Views.{loop-rings, vertex-rings, loop-rings-by, vertex-rings-by, continues-by, next-used-by}
+use Rattle.rules.proofs.Views.{loop-rings, vertex-rings, loop-rings-by, vertex-rings-by, continues-by, next-used-by, HasHalf, Placed}
 use Rattle.rules.proofs.Runs.{Met, loop-meets, in-from-on, on-from-in}
 use Rattle.rules.proofs.Led.{Alike, owned-alike}
-use Rattle.rules.proofs.Erase.{past-on, Gone, halves-apart, erased, turns-left, after-x, after-y, erased-in, erased-in-use, erased-length, erased-count, erased-still, erased-start, erased-owner, erased-first, erased-second, erased-other, lone-put, emptied-is, lone-put-has-in, lone-put-has-out, lone-put-other, lone-put-face, lone-put-true, lone-put-false, lone-put-length, lone-put-count}
+use Rattle.rules.proofs.Erase.{start-was as erased-start-was, starts-placed, past-on, Gone, halves-apart, erased, turns-left, after-x, after-y, erased-in, erased-in-use, erased-length, erased-count, erased-still, erased-start, erased-owner, erased-first, erased-second, erased-other, lone-put, emptied-is, lone-put-has-in, lone-put-has-out, lone-put-other, lone-put-face, lone-put-true, lone-put-false, lone-put-length, lone-put-count}
 
 -- what an accepted edit says of the half-edge x and its mate y
 pub record Asked (b : Boundary) (x y l : ℕ) : Type 0 where
@@ -211,7 +211,7 @@ module _ (b c : Boundary) (x y l : ℕ) (s : Sound b) (a : Asked b x y l) (d : L
   not-y i u = d .gone .in-use i u .2
 
   start-was : (i : ℕ) → Used c i → start c i ≡ start b i
-  start-was i u = d .gone .old-start i (was-used i u) (not-x i u) (not-y i u)
+  start-was = erased-start-was b c x y s (d .gone)
 
   pub owner-was : (i : ℕ) → Used c i → (On i × (owner c i ≡ l)) ⊎ ((On i → ⊥) × (owner c i ≡ owner b i))
   owner-was i u = elim (on-run? (next b) (next b x) (met .steps) i) [
@@ -325,28 +325,16 @@ module _ (b c : Boundary) (x y l : ℕ) (s : Sound b) (a : Asked b x y l) (d : L
   }
 
   -- a vertex is a start or lone
-  abbrev Placed : ℕ → Type 0
-  Placed v = ((z : ℕ) × Used c z × (start c z ≡ v)) ⊎ ((m : ℕ) × (lone c m ≡ Some v))
-
-  at-x : Placed (start b x)
+  at-x : Placed c (start b x)
   at-x = elim (ℕ-discrete (next b y) x) [
     | yes e ↦ inr (ol, d .lone-emptied e)
     | no ne ↦ inl (next b y, y-on ne, start-was (next b y) (y-on ne) ∙ after-y b c x y s (d .gone))
   ]
 
-  at-y : Placed (start b y)
+  at-y : Placed c (start b y)
   at-y = elim (ℕ-discrete (next b x) y) [
     | yes e ↦ inr (l, d .lone-cut e)
     | no ne ↦ inl (next b x, x-on ne, start-was (next b x) (x-on ne) ∙ after-x b c x y s (d .gone))
-  ]
-
-  placed : (z : ℕ) → Used b z → Placed (start b z)
-  placed z u = elim (ℕ-discrete z x) [
-    | yes e ↦ subst (λ i. Placed (start b i)) (sym e) at-x
-    | no nx ↦ elim (ℕ-discrete z y) [
-      | yes e ↦ subst (λ i. Placed (start b i)) (sym e) at-y
-      | no ny ↦ inl (z, d .gone .still-in-use z u nx ny, d .gone .old-start z u nx ny)
-    ]
   ]
 
   -- where a run is empty, no other half-edge starts at its vertex
@@ -387,19 +375,19 @@ module _ (b c : Boundary) (x y l : ℕ) (s : Sound b) (a : Asked b x y l) (d : L
   one-place m n v (old q e) (old p w) = s .lone .one-loop m n v e w
 
   -- each loop without a lone vertex has a half-edge
-  half-on-l : lone c l ≡ None → (z : ℕ) × Used c z × (owner c z ≡ l)
+  half-on-l : lone c l ≡ None → HasHalf c l
   half-on-l e = (next b x, x-on ne, on-owner (next b x) after-x-used x-not-self ne (after-x-on ne))
     where
       ne : next b x ≢ y
       ne t = none-not-some e (d .lone-cut t)
 
-  half-on-ol : lone c ol ≡ None → (z : ℕ) × Used c z × (owner c z ≡ ol)
+  half-on-ol : lone c ol ≡ None → HasHalf c ol
   half-on-ol e = (next b y, y-on ne, off-owner (next b y) (s .named .next-used y y-used) ne y-not-self after-y-off ∙ after-y-owner)
     where
       ne : next b y ≢ x
       ne t = none-not-some e (d .lone-emptied t)
 
-  half-on-other : (m : ℕ) → m ≢ ol → ((z : ℕ) × Used b z × (owner b z ≡ m)) → (z : ℕ) × Used c z × (owner c z ≡ m)
+  half-on-other : (m : ℕ) → m ≢ ol → HasHalf b m → HasHalf c m
   half-on-other m ne o =
       let nx : o .0 ≢ x = λ e. ne (sym (o .2) ∙ ap (owner b) e) in
       let ny : o .0 ≢ y = λ e. ne (sym (o .2) ∙ ap (owner b) e ∙ sym (a .together)) in
@@ -416,7 +404,7 @@ module _ (b c : Boundary) (x y l : ℕ) (s : Sound b) (a : Asked b x y l) (d : L
       ]
     ];
     start-or-lone = λ v u. elim (s .lone .start-or-lone v (subst (λ t. Has t v) (d .same-vertices) u)) [
-      | inl z ↦ subst Placed (z .2) (placed (z .0) (z .1))
+      | inl z ↦ subst (Placed c) (z .2) (starts-placed b c x y s (d .gone) at-x at-y (z .0) (z .1))
       | inr m ↦ inr (m .0, lone-other (m .0) (not-l (m .0) (lone-has b (m .0) v (m .1))) (not-on-ol (m .0) v (m .1)) ∙ m .1)
     ];
     one-loop = λ m n v e r. one-place m n v (lone-was m v e) (lone-was n v r);

@@ -24,7 +24,7 @@ use Rattle.rules.specs.Rules.{Has, Used, Sizes, Named, LoneVertices, Outer, On
 use Rattle.rules.proofs.Rows.{true-T, unless-none, none-not-some, some-same, has-below, row-put-same, row-put-other, has-put-other-in, has-put-again, has-clear-in, has-clear-out, length-put}
 use Rattle.rules.proofs.Counts.{count-put-used, count-clear}
 use Rattle.rules.proofs.Halves.{mate-apart, used-mate}
-use Rattle.rules.proofs.Views.{loop-rings-by, vertex-rings-by, continues-by}
+use Rattle.rules.proofs.Views.{loop-rings-by, vertex-rings-by, continues-by, HasHalf, Placed}
 use Rattle.rules.proofs.KevHalves.{kev-edges, mate-used-too, left-in, left-out, left-start, left-owner, left-size, left-count, left-loops, left-vertices, only-mate, same-loop, none-on-loop, none-at-start, after-left, after-owner, after-start}
 
 abbrev pub shrunk : Boundary → List (Option Loop) → ℕ → Boundary
@@ -122,10 +122,7 @@ module _ (b : Boundary) (ls : List (Option Loop)) (h : ℕ) (s : Sound b) (h-use
   ]
 
   -- a half-edge of b on m is left, or else one that is on m too
-  abbrev OnLoop : ℕ → Type 0
-  OnLoop m = (j : ℕ) × Used c j × (owner c j ≡ m)
-
-  left-on : (m j : ℕ) → Used b j → owner b j ≡ m → (m ≡ owner b h → next b (mate h) ≢ h) → OnLoop m
+  left-on : (m j : ℕ) → Used b j → owner b j ≡ m → (m ≡ owner b h → next b (mate h) ≢ h) → HasHalf c m
   left-on m j u e ne = elim (ℕ-discrete j h) [
     | yes q ↦ after-on (sym e ∙ ap (owner b) q)
     | no n ↦ elim (ℕ-discrete j (mate h)) [
@@ -134,34 +131,31 @@ module _ (b : Boundary) (ls : List (Option Loop)) (h : ℕ) (s : Sound b) (h-use
     ]
   ]
     where
-      after-on : m ≡ owner b h → OnLoop m
+      after-on : m ≡ owner b h → HasHalf c m
       after-on q = (next b (mate h), after-left b h s h-used to-mate (ne q), after-owner b h s h-used to-mate (ne q) ∙ sym q)
 
-  else-half-now : (m : ℕ) → Has ls m → lone c m ≡ None → OnLoop m
+  else-half-now : (m : ℕ) → Has ls m → lone c m ≡ None → HasHalf c m
   else-half-now m u q =
       let n = o .lone-none m q in
       let x = s .lone .else-half-edge m (o .has-out m u) (n .0) in
       left-on m (x .0) (x .1) (x .2) (n .1)
 
   -- a vertex that is left is still a start, or lone
-  abbrev Placed : ℕ → Type 0
-  Placed u = ((j : ℕ) × Used c j × (start c j ≡ u)) ⊎ ((m : ℕ) × (lone c m ≡ Some u))
-
-  start-placed : Placed (start b h)
+  start-placed : Placed c (start b h)
   start-placed = elim (ℕ-discrete (next b (mate h)) h) [
     | yes e ↦ inr (owner b h, o .lone-then e)
     | no ne ↦ inl (next b (mate h), after-left b h s h-used to-mate ne, after-start b h s h-used to-mate ne)
   ]
 
-  half-placed : (u j : ℕ) → Used b j → start b j ≡ u → u ≢ v → Placed u
+  half-placed : (u j : ℕ) → Used b j → start b j ≡ u → u ≢ v → Placed c u
   half-placed u j x e n = elim (ℕ-discrete j h) [
-    | yes q ↦ subst Placed (ap (start b) (sym q) ∙ e) start-placed
+    | yes q ↦ subst (Placed c) (ap (start b) (sym q) ∙ e) start-placed
     | no ne ↦
         let nm : j ≢ mate h = λ q. n (sym e ∙ ap (start b) q) in
         inl (j, left-in b h s h-used to-mate j x ne nm, left-start b h s h-used to-mate j ne nm ∙ e)
   ]
 
-  placed : (u : ℕ) → Has (c .vertices) u → Placed u
+  placed : (u : ℕ) → Has (c .vertices) u → Placed c u
   placed u x =
       let old = has-clear-out (b .vertices) v u x in
       elim (s .lone .start-or-lone u (old .0)) [

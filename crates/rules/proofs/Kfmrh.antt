@@ -1,27 +1,28 @@
 -- A face that becomes an inner loop of another keeps the rules. Of two shells, first the faces of one take the other's, so that both faces lie in one shell; then the loops of one face lie in the other. Each step keeps every rule but the balance.
 use mathlib.Core.Path.{_≡_, refl, sym, ap, subst, _∙_}
-use mathlib.Core.Logic.{_≢_, _⊎_, inl, inr}
+use mathlib.Core.Logic.{_≢_, inl, inr}
 use mathlib.Core.Bool.{cond, not, _&&_}
 use Prim.Native.Nat.{ℕ, _<_}
 use native.Mathlib.Decide.{ℕ-discrete}
 use native.Mathlib.Omega.{arith}
 use lib.Dec.{eqb}
 use Rattle.std.specs.Options.{mapped}
-use Rattle.std.specs.declared.option.Option.the-variants.{None, Some}
+use Rattle.std.specs.declared.option.Option.the-variants.{None}
 use Rattle.std.proofs.shelf.Lists.{map-set}
 use Rattle.std.proofs.shelf.Tests.{eq-eqb, ne-eqb, cond-true, cond-false, and-parts}
 use Rattle.boundary.specs.declared.Refusal.the-variants.{Unused, Condition}
 use Rattle.boundary.specs.declared.Boundary.{Boundary}
-use Rattle.boundary.specs.Tables.{row, used, start, owner, mate, lone, shell-of, outer-of, loop-face, face-shell, loop-shell, loops-in}
+use Rattle.boundary.specs.Tables.{row, used, owner, mate, lone, shell-of, outer-of, loop-face, face-shell, loop-shell, loops-in}
 use Rattle.boundary.specs.Changes.{with-faces, with-handles, clear-shell, clear-face, inner, inner-loop, merged, merged-face}
 use Rattle.boundary.specs.Operators.{one-more, kfmrh}
 use Rattle.boundary.specs.Refusals.{kfmrh-refusal}
-use Rattle.rules.specs.Rules.{Has, Used, Sizes, Named, Continues, LoopRings, VertexRings, LoneVertices, Outer, OneShell, Balanced, Sound}
+use Rattle.rules.specs.Rules.{Has, Sizes, Named, Continues, LoopRings, VertexRings, LoneVertices, Outer, OneShell, Balanced, Sound}
 use Rattle.rules.proofs.Rows.{true-T, not-eqb, unless-none, row-put-other, length-put, length-mapped, has-clear-in, has-clear-out, has-map-in, has-map-out}
 use Rattle.rules.proofs.Counts.{count-clear, count-map, one-more-is}
 use Rattle.rules.proofs.Fields.{inner-lone, inner-hit, inner-miss, merged-outer, merged-shell, merged-hit, merged-miss}
 use Rattle.rules.proofs.Halves.{used-mate}
 use Rattle.rules.proofs.Edges.{continues-beside, loops-beside, vertices-beside}
+use Rattle.rules.proofs.Views.{Placed}
 
 -- every rule but the balance
 record Kept (b : Boundary) : Type 0 where
@@ -215,7 +216,7 @@ module _ (b : Boundary) (f g : ℕ) (k : Kept b) (uf : Has (b .faces) f) (ne : f
     outer-used = outer-used;
   }
 
-  start-or-lone : (v : ℕ) → Has (b .vertices) v → ((h : ℕ) × Used b h × (start b h ≡ v)) ⊎ ((l : ℕ) × (lone new l ≡ Some v))
+  start-or-lone : (v : ℕ) → Has (b .vertices) v → Placed new v
   start-or-lone v u = elim (k .lone .start-or-lone v u) [ inl x ↦ inl x | inr y ↦ inr (y .0, lone-is (y .0) ∙ y .1) ]
 
   lone-rule : LoneVertices new

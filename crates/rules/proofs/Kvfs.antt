@@ -1,6 +1,6 @@
 -- A shell of one face, one loop and one lone vertex goes and keeps the rules: nothing that stays names any of the four.
 use mathlib.Core.Path.{_≡_, refl, sym, ap, subst, _∙_}
-use mathlib.Core.Logic.{_≢_, _⊎_, inl, inr}
+use mathlib.Core.Logic.{_≢_, inl, inr}
 use mathlib.Core.Bool.{_&&_}
 use Prim.Native.Nat.{ℕ, _<_}
 use native.Mathlib.Omega.{arith}
@@ -21,6 +21,7 @@ use Rattle.rules.proofs.Counts.{count-clear}
 use Rattle.rules.proofs.Fields.{one-loop-in, one-face-in, face-in-is}
 use Rattle.rules.proofs.Halves.{used-mate}
 use Rattle.rules.proofs.Edges.{continues-beside, loops-beside, vertices-beside}
+use Rattle.rules.proofs.Views.{HasHalf, Placed}
 
 -- the face f is the only one of the shell a, the loop l the only one of f, and the vertex v is lone on l
 record Minimal (b : Boundary) (a f l v : ℕ) : Type 0 where
@@ -132,12 +133,12 @@ module _ (b : Boundary) (a f l v : ℕ) (s : Sound b) (m : Minimal b a f l v) wh
     outer-used = outer-used;
   }
 
-  else-half-edge : (k : ℕ) → Has (new .loops) k → lone new k ≡ None → (h : ℕ) × Used b h × (owner b h ≡ k)
+  else-half-edge : (k : ℕ) → Has (new .loops) k → lone new k ≡ None → HasHalf b k
   else-half-edge k u e =
       let o = has-clear-out (b .loops) l k u in
       s .lone .else-half-edge k (o .0) (sym (ap lone-of (loop-there k (o .1))) ∙ e)
 
-  start-or-lone : (w : ℕ) → Has (new .vertices) w → ((h : ℕ) × Used b h × (start b h ≡ w)) ⊎ ((k : ℕ) × (lone new k ≡ Some w))
+  start-or-lone : (w : ℕ) → Has (new .vertices) w → Placed new w
   start-or-lone w u =
       let o = has-clear-out (b .vertices) v w u in
       elim (s .lone .start-or-lone w (o .0)) [

@@ -29,7 +29,7 @@ use Rattle.rules.specs.Rules.{Has, Used, turn, Sizes, Named, LoneVertices, Out
 use Rattle.rules.proofs.Rows.{true-T, not-eqb, unless-none, free-not-has, row-has, row-put-same, row-put-other, length-put, lone-has, none-not-some, some-same}
 use Rattle.rules.proofs.Counts.{count-put-free}
 use Rattle.rules.proofs.Halves.{mate-of-even, mate-of-odd, new-edge, new-even, put-even, put-odd, half-put-other, put-used-even, put-used-odd, put-used-in, put-used-cases, owned-hit, owned-miss, used-mate}
-use Rattle.rules.proofs.Views.{paired, loop-rings, vertex-rings, loop-rings-by, vertex-rings-by, continues-by, next-used-by}
+use Rattle.rules.proofs.Views.{paired, loop-rings, vertex-rings, loop-rings-by, vertex-rings-by, continues-by, next-used-by, HasHalf}
 use Rattle.rules.proofs.Runs.{Met, loop-meets, in-from-on, on-from-in, last-step}
 use Rattle.rules.proofs.Led.{Alike, owned-alike, led-twice, twice-has-in, twice-has-out, twice-length, twice-count, twice-start, twice-owner, twice-first, twice-second, twice-other}
 
@@ -298,7 +298,7 @@ module _ (b c : Boundary) (h j k x y f l : ℕ) (s : Sound b) (a : Asked b h j k
   }
 
   -- a loop that had half-edges has some still: x on the loop of h, and any other loop all of its own
-  has-half : (i : ℕ) → i ≢ l → ((z : ℕ) × Used b z × (owner b z ≡ i)) → (z : ℕ) × Used c z × (owner c z ≡ i)
+  has-half : (i : ℕ) → i ≢ l → HasHalf b i → HasHalf c i
   has-half i ne o = elim (ℕ-discrete i (owner b h)) [
     | yes e ↦ (x, d .x-in-use, ap (λ r. r .owner) (d .x-half) ∙ sym e)
     | no apart ↦ (o .0, d .still-in-use (o .0) (o .1), off-owner (o .0) (o .1) (λ r. apart (sym (o .2) ∙ was-owner (o .0) r)) ∙ o .2)

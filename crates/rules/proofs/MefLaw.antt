@@ -13,7 +13,7 @@ use Rattle.rules.specs.Rules.{Used, Sound}
 use Rattle.rules.specs.RingLaws.{leads-to, RingOf, Else, MefLaw}
 use Rattle.rules.proofs.Halves.{used-mate}
 use Rattle.rules.proofs.Mef.{Asked, asked, Made, has-made, on?, on-owner, off-owner, was-owner, fresh, lone-same}
-use Rattle.rules.proofs.RingLists.{in-none, in-first, in-rest, in-one, in-left, in-right, in-parts, in?, none-of-two, once-append, once-left, once-right, once-apart, leads-append, leads-left, leads-right, leads-carried, Kept, ring-kept}
+use Rattle.rules.proofs.RingLists.{in-none, in-first, in-rest, in-one, in-left, in-right, in-parts, in?, none-of-two, once-append, leads-append, leads-carried, Kept, ring-kept, Parts, parts-of}
 use Rattle.rules.proofs.RingRuns.{run-list}
 
 module _ (b c : Boundary) (h j k x y f l : ℕ) (s : Sound b) (a : Asked b h j k f l) (d : Made b c h j x y f l) where
@@ -37,46 +37,31 @@ module _ (b c : Boundary) (h j k x y f l : ℕ) (s : Sound b) (a : Asked b h j k
 
   -- the ring of h and j, cut just before j
   module _ (m : ℕ) (xs ys : List ℕ) (r : RingOf b m (h ∷ xs ++ j ∷ ys)) where
-    front-in : (i : ℕ) → In (h ∷ xs) i → Used b i × (owner b i ≡ m)
-    front-in i p = r .only i (in-left (h ∷ xs) (j ∷ ys) i p)
-
-    back-in : (i : ℕ) → In (j ∷ ys) i → Used b i × (owner b i ≡ m)
-    back-in i p = r .only i (in-right (h ∷ xs) (j ∷ ys) i p)
-
-    on-m : owner b h ≡ m
-    on-m = front-in h (in-first h xs) .1
-
-    split : (i : ℕ) → In (h ∷ xs) i → In (j ∷ ys) i → ⊥
-    split = once-apart (h ∷ xs) (j ∷ ys) (r .distinct)
+    in-two : Parts b m h j xs ys
+    in-two = parts-of b m h j xs ys r
 
     j-behind : In (h ∷ xs) j → ⊥
-    j-behind i = split j i (in-first j ys)
+    j-behind i = in-two .apart j i (in-first j ys)
 
     h-before : In (j ∷ ys) h → ⊥
-    h-before i = split h (in-first h xs) i
-
-    front-leads : leads-to (next b) (h ∷ xs) j
-    front-leads = leads-left (next b) (h ∷ xs) (j ∷ ys) h (r .round)
-
-    back-leads : leads-to (next b) (j ∷ ys) h
-    back-leads = leads-right (next b) (h ∷ xs) (j ∷ ys) h (r .round)
+    h-before i = in-two .apart h (in-first h xs) i
 
     run-front : run (next b) 384 h j ≡ h ∷ xs
-    run-front = run-list b s h (h ∷ xs) j refl (a .h-used) (a .j-used) (a .together) front-leads j-behind
+    run-front = run-list b s h (h ∷ xs) j refl (a .h-used) (a .j-used) (a .together) (in-two .front-leads) j-behind
 
     owner-front : (i : ℕ) → In (h ∷ xs) i → owner c i ≡ l
-    owner-front i p = d .on-run i (front-in i p .0) (subst (λ t. In t i) (sym run-front) p)
+    owner-front i p = d .on-run i (in-two .front-in i p .0) (subst (λ t. In t i) (sym run-front) p)
 
     owner-else : (i : ℕ) → Used b i → (In (h ∷ xs) i → ⊥) → owner c i ≡ owner b i
     owner-else i u n = d .off-run i u (λ p. n (subst (λ t. In t i) run-front p))
 
     -- the new ring
     new-leads : leads-to (next c) (h ∷ xs) y
-    new-leads = leads-carried (next b) (next c) h xs j y (λ i p q. d .elsewhere i (front-in i p .0) (λ e. once-left (h ∷ xs) (j ∷ ys) (r .distinct) .0 (subst (In xs) e q)) (λ e. j-behind (in-rest h j xs (subst (In xs) e q)))) (λ i p e. d .to-j i (front-in i p .0) e) front-leads
+    new-leads = leads-carried (next b) (next c) h xs j y (λ i p q. d .elsewhere i (in-two .front-in i p .0) (λ e. in-two .front-once .0 (subst (In xs) e q)) (λ e. j-behind (in-rest h j xs (subst (In xs) e q)))) (λ i p e. d .to-j i (in-two .front-in i p .0) e) (in-two .front-leads)
 
     new-only : (i : ℕ) → In (h ∷ xs ++ y ∷ []) i → Used c i × (owner c i ≡ l)
     new-only i p = elim (in-parts (h ∷ xs) (y ∷ []) i p) [
-      | inl q ↦ (d .still-in-use i (front-in i q .0), owner-front i q)
+      | inl q ↦ (d .still-in-use i (in-two .front-in i q .0), owner-front i q)
       | inr q ↦ (subst (Used c) (sym (in-one y i q)) (d .y-in-use), ap (owner c) (in-one y i q) ∙ owner-y)
     ]
 
@@ -95,19 +80,19 @@ module _ (b c : Boundary) (h j k x y f l : ℕ) (s : Sound b) (a : Asked b h j k
     new-ring : RingOf c l (h ∷ xs ++ y ∷ [])
     new-ring = record {
       round = leads-append (next c) (h ∷ xs) (y ∷ []) h new-leads next-y;
-      distinct = once-append (h ∷ xs) (y ∷ []) (once-left (h ∷ xs) (j ∷ ys) (r .distinct)) (in-none y, tt) (λ i p q. y-new (subst (Used b) (in-one y i q) (front-in i p .0)));
+      distinct = once-append (h ∷ xs) (y ∷ []) (in-two .front-once) (in-none y, tt) (λ i p q. y-new (subst (Used b) (in-one y i q) (in-two .front-in i p .0)));
       only = new-only;
       whole = new-whole;
     }
 
     -- the old ring
     old-leads : leads-to (next c) (j ∷ ys) x
-    old-leads = leads-carried (next b) (next c) j ys h x (λ i p q. d .elsewhere i (back-in i p .0) (λ e. h-before (in-rest j h ys (subst (In ys) e q))) (λ e. once-right (h ∷ xs) (j ∷ ys) (r .distinct) .0 (subst (In ys) e q))) (λ i p e. d .to-h i (back-in i p .0) e) back-leads
+    old-leads = leads-carried (next b) (next c) j ys h x (λ i p q. d .elsewhere i (in-two .back-in i p .0) (λ e. h-before (in-rest j h ys (subst (In ys) e q))) (λ e. in-two .back-once .0 (subst (In ys) e q))) (λ i p e. d .to-h i (in-two .back-in i p .0) e) (in-two .back-leads)
 
     old-only : (i : ℕ) → In (j ∷ ys ++ x ∷ []) i → Used c i × (owner c i ≡ m)
     old-only i p = elim (in-parts (j ∷ ys) (x ∷ []) i p) [
-      | inl q ↦ (d .still-in-use i (back-in i q .0), owner-else i (back-in i q .0) (λ t. split i t q) ∙ back-in i q .1)
-      | inr q ↦ (subst (Used c) (sym (in-one x i q)) (d .x-in-use), ap (owner c) (in-one x i q) ∙ owner-x ∙ on-m)
+      | inl q ↦ (d .still-in-use i (in-two .back-in i q .0), owner-else i (in-two .back-in i q .0) (λ t. in-two .apart i t q) ∙ in-two .back-in i q .1)
+      | inr q ↦ (subst (Used c) (sym (in-one x i q)) (d .x-in-use), ap (owner c) (in-one x i q) ∙ owner-x ∙ in-two .on-m)
     ]
 
     old-whole : (i : ℕ) → Used c i → owner c i ≡ m → In (j ∷ ys ++ x ∷ []) i
@@ -126,12 +111,12 @@ module _ (b c : Boundary) (h j k x y f l : ℕ) (s : Sound b) (a : Asked b h j k
     ]
       where
         not-l : l ≢ m
-        not-l t = not-new h (a .h-used) (on-m ∙ sym t)
+        not-l t = not-new h (a .h-used) (in-two .on-m ∙ sym t)
 
     old-ring : RingOf c m (j ∷ ys ++ x ∷ [])
     old-ring = record {
       round = leads-append (next c) (j ∷ ys) (x ∷ []) j old-leads next-x;
-      distinct = once-append (j ∷ ys) (x ∷ []) (once-right (h ∷ xs) (j ∷ ys) (r .distinct)) (in-none x, tt) (λ i p q. d .x-new (subst (Used b) (in-one x i q) (back-in i p .0)));
+      distinct = once-append (j ∷ ys) (x ∷ []) (in-two .back-once) (in-none x, tt) (λ i p q. d .x-new (subst (Used b) (in-one x i q) (in-two .back-in i p .0)));
       only = old-only;
       whole = old-whole;
     }

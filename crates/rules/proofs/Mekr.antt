@@ -29,7 +29,7 @@ use Rattle.rules.specs.Rules.{Has, Used, turn, Sizes, Named, LoneVertices, Out
 use Rattle.rules.proofs.Rows.{some-value, true-T, not-eqb, unless-none, free-not-has, has-below, row-put-same, row-put-other, length-put, has-put-other-in, has-put-again, has-clear-in, has-clear-out, lone-has, none-not-some, some-same}
 use Rattle.rules.proofs.Counts.{count-put-free, count-put-used, count-clear}
 use Rattle.rules.proofs.Halves.{half-of-even, mate-of-even, mate-of-odd, used-mate, new-edge, new-even, new-odd, put-even, put-odd, half-put-other, put-used-even, put-used-odd, put-used-in, put-used-cases, joined-hit, joined-miss}
-use Rattle.rules.proofs.Views.{loop-rings, vertex-rings, next-used-by, loop-rings-by, vertex-rings-by, continues-by}
+use Rattle.rules.proofs.Views.{loop-rings, vertex-rings, next-used-by, loop-rings-by, vertex-rings-by, continues-by, HasHalf, Placed}
 use Rattle.rules.proofs.Enter.{EnteredTwo, enter-two-keeps}
 use Rattle.rules.proofs.Led.{Alike, joined-alike, led-twice, twice-has-in, twice-has-out, twice-length, twice-count, twice-start, twice-owner, twice-first, twice-second, twice-other}
 
@@ -427,7 +427,7 @@ module _ (b : Boundary) (p q : Option ℕ) (l m v w k : ℕ) (s : Sound b) (j : 
         | inr old ↦ λ same. s .lone .lone-alone n i h (o .2) (old .0) (sym (old .1) ∙ same)
       ]
 
-  else-half-edge : (n : ℕ) → Has (new .loops) n → lone new n ≡ None → (h : ℕ) × Used new h × (owner new h ≡ n)
+  else-half-edge : (n : ℕ) → Has (new .loops) n → lone new n ≡ None → HasHalf new n
   else-half-edge n u e =
       let o = loop-out n u in
       elim (ℕ-discrete n l) [
@@ -438,7 +438,7 @@ module _ (b : Boundary) (p q : Option ℕ) (l m v w k : ℕ) (s : Sound b) (j : 
       ]
 
   -- a vertex that was lone on one of the two loops is the start of a new half-edge
-  still-lone : (i n : ℕ) → lone b n ≡ Some i → ((h : ℕ) × Used new h × (start new h ≡ i)) ⊎ ((n : ℕ) × (lone new n ≡ Some i))
+  still-lone : (i n : ℕ) → lone b n ≡ Some i → Placed new i
   still-lone i n e = elim (ℕ-discrete n l) [
     | yes d ↦ inl (X, x-used, x-start ∙ sym (lone-is b s (j .from) i (ap (lone b) (sym d) ∙ e)))
     | no nl ↦ elim (ℕ-discrete n m) [
@@ -447,7 +447,7 @@ module _ (b : Boundary) (p q : Option ℕ) (l m v w k : ℕ) (s : Sound b) (j : 
     ]
   ]
 
-  start-or-lone : (i : ℕ) → Has (b .vertices) i → ((h : ℕ) × Used new h × (start new h ≡ i)) ⊎ ((n : ℕ) × (lone new n ≡ Some i))
+  start-or-lone : (i : ℕ) → Has (b .vertices) i → Placed new i
   start-or-lone i u = elim (s .lone .start-or-lone i u) [
     | inl h ↦ inl (h .0, used-in (h .0) (h .1), start-is (h .0) (h .1) ∙ h .2)
     | inr n ↦ still-lone i (n .0) (n .1)

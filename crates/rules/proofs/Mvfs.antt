@@ -21,6 +21,7 @@ use Rattle.rules.proofs.Counts.{count-put-free}
 use Rattle.rules.proofs.Halves.{used-mate}
 use Rattle.rules.proofs.Edges.{continues-beside, loops-beside, vertices-beside}
 use Rattle.std.proofs.shelf.Tests.{and-parts}
+use Rattle.rules.proofs.Views.{HasHalf, Placed}
 
 -- the four numbers are in range and free
 pub record Fresh (b : Boundary) (a f l v : ℕ) : Type 0 where
@@ -138,7 +139,7 @@ module _ (b : Boundary) (a f l v : ℕ) (p : Point) (s : Sound b) (n : Fresh b a
     | inr old ↦ s .lone .lone-alone m w h old u
   ]
 
-  else-half-edge : (m : ℕ) → Has (new .loops) m → lone new m ≡ None → (h : ℕ) × Used b h × (owner b h ≡ m)
+  else-half-edge : (m : ℕ) → Has (new .loops) m → lone new m ≡ None → HasHalf b m
   else-half-edge m u e = elim (has-put-cases (b .loops) l m _ u) [
     | inl q ↦
         let some : lone new m ≡ Some v = ap (lone new) q ∙ lone-here in
@@ -146,7 +147,7 @@ module _ (b : Boundary) (a f l v : ℕ) (p : Point) (s : Sound b) (n : Fresh b a
     | inr old ↦ s .lone .else-half-edge m old (sym (ap lone-of (loop-there m old)) ∙ e)
   ]
 
-  start-or-lone : (w : ℕ) → Has (new .vertices) w → ((h : ℕ) × Used b h × (start b h ≡ w)) ⊎ ((m : ℕ) × (lone new m ≡ Some w))
+  start-or-lone : (w : ℕ) → Has (new .vertices) w → Placed new w
   start-or-lone w u = elim (has-put-cases (b .vertices) v w p u) [
     | inl q ↦ inr (l, lone-here ∙ ap Some (sym q))
     | inr old ↦ elim (s .lone .start-or-lone w old) [ inl x ↦ inl x | inr y ↦ inr (y .0, lone-there (y .0) w (y .1)) ]

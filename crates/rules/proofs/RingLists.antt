@@ -175,3 +175,26 @@ ring-kept b b′ m hs same r = record {
   only = λ h i. (same .used-in h (r .only h i .0) (r .only h i .1), same .owner-in h (r .only h i .0) (r .only h i .1));
   whole = λ h u e. r .whole h (same .used-out h u e) (same .owner-out h u e);
 }
+
+-- a ring in two parts, the second of which begins with y
+pub record Parts (b : Boundary) (m x y : ℕ) (xs ys : List ℕ) : Type 0 where
+  pub front-in : (i : ℕ) → In (x ∷ xs) i → Used b i × (owner b i ≡ m)
+  pub back-in : (i : ℕ) → In (y ∷ ys) i → Used b i × (owner b i ≡ m)
+  pub front-once : once (x ∷ xs)
+  pub back-once : once (y ∷ ys)
+  pub apart : (i : ℕ) → In (x ∷ xs) i → In (y ∷ ys) i → ⊥
+  pub front-leads : leads-to (next b) (x ∷ xs) y
+  pub back-leads : leads-to (next b) (y ∷ ys) x
+  pub on-m : owner b x ≡ m
+
+pub parts-of : (b : Boundary) (m x y : ℕ) (xs ys : List ℕ) → RingOf b m (x ∷ xs ++ y ∷ ys) → Parts b m x y xs ys
+parts-of b m x y xs ys r = record {
+  front-in = λ i p. r .only i (in-left (x ∷ xs) (y ∷ ys) i p);
+  back-in = λ i p. r .only i (in-right (x ∷ xs) (y ∷ ys) i p);
+  front-once = once-left (x ∷ xs) (y ∷ ys) (r .distinct);
+  back-once = once-right (x ∷ xs) (y ∷ ys) (r .distinct);
+  apart = once-apart (x ∷ xs) (y ∷ ys) (r .distinct);
+  front-leads = leads-left (next b) (x ∷ xs) (y ∷ ys) x (r .round);
+  back-leads = leads-right (next b) (x ∷ xs) (y ∷ ys) x (r .round);
+  on-m = r .only x (in-first x (xs ++ y ∷ ys)) .1;
+}

@@ -2,12 +2,21 @@
 use mathlib.Core.Path.{_≡_, sym, ap, _∙_}
 use Prim.Native.Nat.{ℕ, _<_}
 use Rattle.boundary.specs.declared.Boundary.{Boundary}
-use Rattle.boundary.specs.Tables.{start, next, owner, mate}
+use Rattle.boundary.specs.Tables.{start, next, owner, mate, lone}
 use Rattle.rings.specs.Rings.{Rings}
 use Rattle.rings.specs.Euler.{Paired}
 use Rattle.rings.proofs.Facts.{injective}
 use Rattle.rules.specs.Rules.{Used, turn, Continues, LoopRings, VertexRings, Sound}
 use Rattle.rules.proofs.Halves.{mate-mate, used-mate, used-small}
+use mathlib.Core.Logic.{_⊎_}
+use Rattle.std.specs.declared.option.Option.the-variants.{Some}
+
+-- the loop l has a half-edge, and the vertex v is a start, or lone
+abbrev pub HasHalf : Boundary → ℕ → Type 0
+HasHalf b l = (h : ℕ) × Used b h × (owner b h ≡ l)
+
+abbrev pub Placed : Boundary → ℕ → Type 0
+Placed b v = ((h : ℕ) × Used b h × (start b h ≡ v)) ⊎ ((l : ℕ) × (lone b l ≡ Some v))
 
 pub paired : (b : Boundary) → Paired mate (Used b)
 paired b = record { in-use = used-mate b; back = λ h u. mate-mate h }
