@@ -23,11 +23,12 @@ use Rattle.rings.proofs.Facts.{injective}
 use Rattle.rings.proofs.Put.{swapped-by-put, skip-hit, skip-miss}
 use Rattle.rings.proofs.Euler.{vertices-left}
 use Rattle.rules.specs.Rules.{Has, Used, turn, Sound}
-use Rattle.rules.proofs.Rows.{has-below, has-put-other-in, has-put-again, row-put-same, row-put-other, length-put, some-same}
-use Rattle.rules.proofs.Counts.{count-put-used, count-clear}
+use Rattle.rules.proofs.Rows.{length-put, some-same}
+use Rattle.rules.proofs.Counts.{count-clear}
 use Rattle.rules.proofs.Halves.{mate-apart, other-edge, half-put-other, clear-mates-in, clear-mates-out}
 use Rattle.rules.proofs.Views.{paired, loop-rings, vertex-rings, Placed}
 use Rattle.rules.proofs.Led.{Alike, led-twice, twice-has-in, twice-has-out, twice-length, twice-count, twice-start, twice-owner, twice-first, twice-second, twice-other}
+use Rattle.rules.proofs.Fields.{with-lone, lone-has-in, lone-has-out, lone-other-row, lone-face, lone-row, lone-length, lone-count}
 
 -- where a step leads that passes both x and y, once they have exchanged what follows them
 module _ {f : ℕ → ℕ} {used : ℕ → Type 0} {lab : ℕ → ℕ} (r : Rings f used lab) (x y : ℕ) (ux : used x) (uy : used y) (apart : x ≢ y) where
@@ -189,7 +190,7 @@ module _ (es es₁ : List (Option Edge)) (m p n q x : ℕ) (a : Alike es es₁) 
 
 -- where the ring of l was emptied, v is lone on it: the loops alone change
 abbrev pub lone-put : Bool → List (Option Loop) → ℕ → ℕ → List (Option Loop)
-lone-put true t l v = set t l (Some (record { face = face-of (row t l); lone = Some v }))
+lone-put true t l v = with-lone t l (Some v)
 lone-put false t l v = t
 
 pub emptied-is : (c : Bool) (b : Boundary) (l v : ℕ) → emptied c b l v ≡ with-loops b (lone-put c (b .loops) l v)
@@ -197,29 +198,23 @@ emptied-is true b l v = refl
 emptied-is false b l v = refl
 
 pub lone-put-has-in : (c : Bool) (t : List (Option Loop)) (l v m : ℕ) → Has t m → Has (lone-put c t l v) m
-lone-put-has-in true t l v m u = has-put-other-in t l m (record { face = face-of (row t l); lone = Some v }) u
+lone-put-has-in true t l v m u = lone-has-in t l (Some v) m u
 lone-put-has-in false t l v m u = u
 
 pub lone-put-has-out : (c : Bool) (t : List (Option Loop)) (l v m : ℕ) → Has t l → Has (lone-put c t l v) m → Has t m
-lone-put-has-out true t l v m old u = has-put-again t l m (record { face = face-of (row t l); lone = Some v }) old u
+lone-put-has-out true t l v m old u = lone-has-out t l (Some v) old m u
 lone-put-has-out false t l v m old u = u
 
 pub lone-put-other : (c : Bool) (t : List (Option Loop)) (l v m : ℕ) → m ≢ l → row (lone-put c t l v) m ≡ row t m
-lone-put-other true t l v m ne = row-put-other t l m (Some (record { face = face-of (row t l); lone = Some v })) ne
+lone-put-other true t l v m ne = lone-other-row t l (Some v) m ne
 lone-put-other false t l v m ne = refl
 
 pub lone-put-face : (c : Bool) (t : List (Option Loop)) (l v m : ℕ) → Has t l → face-of (row (lone-put c t l v) m) ≡ face-of (row t m)
 lone-put-face false t l v m old = refl
-lone-put-face true t l v m old = elim (ℕ-discrete m l) [
-  | yes e ↦ ap (λ i. face-of (row (set t l put) i)) e ∙ ap face-of (row-put-same t l put (has-below t l old)) ∙ ap (λ i. face-of (row t i)) (sym e)
-  | no ne ↦ ap face-of (row-put-other t l m put ne)
-]
-  where
-    put : Option Loop
-    put = Some (record { face = face-of (row t l); lone = Some v })
+lone-put-face true t l v m old = lone-face t l (Some v) old m
 
 pub lone-put-true : (c : Bool) (t : List (Option Loop)) (l v : ℕ) → Has t l → c ≡ true → lone-of (row (lone-put c t l v) l) ≡ Some v
-lone-put-true true t l v old e = ap lone-of (row-put-same t l (Some (record { face = face-of (row t l); lone = Some v })) (has-below t l old))
+lone-put-true true t l v old e = ap lone-of (lone-row t l (Some v) old)
 lone-put-true false t l v old e = absurd (subst T (sym e) tt)
 
 pub lone-put-false : (c : Bool) (t : List (Option Loop)) (l v m : ℕ) → c ≡ false → row (lone-put c t l v) m ≡ row t m
@@ -227,9 +222,9 @@ lone-put-false true t l v m e = absurd (subst T e tt)
 lone-put-false false t l v m e = refl
 
 pub lone-put-length : (c : Bool) (t : List (Option Loop)) (l v : ℕ) → length (lone-put c t l v) ≡ length t
-lone-put-length true t l v = length-put t l (Some (record { face = face-of (row t l); lone = Some v }))
+lone-put-length true t l v = lone-length t l (Some v)
 lone-put-length false t l v = refl
 
 pub lone-put-count : (c : Bool) (t : List (Option Loop)) (l v : ℕ) → Has t l → count (lone-put c t l v) ≡ count t
-lone-put-count true t l v old = count-put-used t l (record { face = face-of (row t l); lone = Some v }) old
+lone-put-count true t l v old = lone-count t l (Some v) old
 lone-put-count false t l v old = refl

@@ -12,12 +12,14 @@ use Rattle.std.proofs.shelf.Tests.{eq-eqb, ne-eqb, cond-true, cond-false}
 use Rattle.boundary.specs.declared.Loop.{Loop}
 use Rattle.boundary.specs.declared.Face.{Face}
 use Rattle.boundary.specs.declared.Boundary.{Boundary}
-use Rattle.boundary.specs.Tables.{row, lone-of, face-of, shell-of, outer-of, loop-face, face-shell, faces-in, loops-in, in-face, in-shell}
+use Rattle.boundary.specs.Tables.{row, lone-of, face-of, shell-of, outer-of, loop-face, face-shell, faces-in, loops-in, in-face, in-shell, count}
 use Rattle.boundary.specs.Changes.{inner-loop, merged-face}
 use Rattle.boundary.specs.Operators.{face-in}
 use Rattle.rules.specs.Rules.{Has}
-use Rattle.rules.proofs.Rows.{has-row, row-has, row-map}
-use Rattle.rules.proofs.Counts.{one-part, one-part-first}
+use Rattle.rules.proofs.Rows.{has-row, row-has, row-map, has-below, has-put-other-in, has-put-again, row-put-same, row-put-other, length-put}
+use Rattle.rules.proofs.Counts.{one-part, one-part-first, count-put-used}
+use lib.ListN.{length, set}
+use native.Mathlib.Decide.{ℕ-discrete}
 
 -- the loops in f lie in g: lone vertices stay, and so does every other face
 inner-lone-of : (f g : ℕ) (r : Option Loop) → lone-of (mapped (inner-loop f g) r) ≡ lone-of r
@@ -40,6 +42,39 @@ module _ (t : List (Option Loop)) (f g l : ℕ) where
 
   pub inner-miss : Has t l → face-of (row t l) ≢ f → face-of (row (map (mapped (inner-loop f g)) t) l) ≡ face-of (row t l)
   inner-miss u ne = inner-face u ∙ cond-false (eqb (face-of (row t l)) f) g (face-of (row t l)) (ne-eqb (face-of (row t l)) f ne)
+
+-- the loop l gets the lone vertex o, or none
+abbrev pub with-lone : List (Option Loop) → ℕ → Option ℕ → List (Option Loop)
+with-lone t l o = set t l (Some (record { face = face-of (row t l); lone = o }))
+
+module _ (t : List (Option Loop)) (l : ℕ) (o : Option ℕ) where
+  abbrev changed : Loop
+  changed = record { face = face-of (row t l); lone = o }
+
+  pub lone-has-in : (m : ℕ) → Has t m → Has (with-lone t l o) m
+  lone-has-in m u = has-put-other-in t l m changed u
+
+  pub lone-other-row : (m : ℕ) → m ≢ l → row (with-lone t l o) m ≡ row t m
+  lone-other-row m ne = row-put-other t l m (Some changed) ne
+
+  pub lone-length : length (with-lone t l o) ≡ length t
+  lone-length = length-put t l (Some changed)
+
+  module _ (old : Has t l) where
+    pub lone-has-out : (m : ℕ) → Has (with-lone t l o) m → Has t m
+    lone-has-out m u = has-put-again t l m changed old u
+
+    pub lone-row : row (with-lone t l o) l ≡ Some changed
+    lone-row = row-put-same t l (Some changed) (has-below t l old)
+
+    pub lone-face : (m : ℕ) → face-of (row (with-lone t l o) m) ≡ face-of (row t m)
+    lone-face m = elim (ℕ-discrete m l) [
+      | yes e ↦ ap (λ i. face-of (row (with-lone t l o) i)) e ∙ ap face-of lone-row ∙ ap (λ i. face-of (row t i)) (sym e)
+      | no ne ↦ ap face-of (lone-other-row m ne)
+    ]
+
+    pub lone-count : count (with-lone t l o) ≡ count t
+    lone-count = count-put-used t l changed old
 
 -- the faces in s lie in z: outer loops stay, and so does every other shell
 merged-outer-of : (s z : ℕ) (r : Option Face) → outer-of (mapped (merged-face s z) r) ≡ outer-of r

@@ -2,7 +2,7 @@
 --     grown b ls es v p     b with the loops ls, the edges es and the new vertex v at p
 --     NewEdge               es is that of b with the edge k from w to v, both halves on the loop l
 --     LoopsFor              ls is that of b, but that l has no lone vertex, and w is lone on no loop
-use mathlib.Core.Path.{_≡_, sym, ap, subst, _∙_}
+use mathlib.Core.Path.{_≡_, sym, ap, subst, _∙_, refl}
 use mathlib.Core.Logic.{_≢_, _⊎_, inl, inr}
 use mathlib.Core.List.{List}
 use Prim.Native.Nat.{ℕ, _+_, _*_, _/_, _<_}
@@ -19,8 +19,9 @@ use Rattle.rings.specs.Rings.{Rings}
 use Rattle.rules.specs.Rules.{Has, Used, turn, Sizes, Named, LoneVertices, Outer, OneShell, Balanced, Sound}
 use Rattle.rules.proofs.Rows.{has-apart, has-put-same, has-put-other-in, has-put-cases, length-put}
 use Rattle.rules.proofs.Counts.{count-put-free}
-use Rattle.rules.proofs.Halves.{mate-of-even, mate-of-odd, used-mate}
+use Rattle.rules.proofs.Halves.{mate-of-even, mate-of-odd, used-mate, new-odd}
 use Rattle.rules.proofs.Views.{loop-rings-by, vertex-rings-by, continues-by, HasHalf, Placed}
+use Rattle.rules.proofs.Added.{TwoMore}
 
 abbrev pub grown : Boundary → List (Option Loop) → List (Option Edge) → ℕ → Point → Boundary
 grown b ls es v p = record { shells = b .shells; faces = b .faces; loops = ls; edges = es; vertices = set (b .vertices) v (Some p); handles = b .handles }
@@ -188,3 +189,18 @@ module _ (b : Boundary) (ls : List (Option Loop)) (es : List (Option Edge)) (k w
     one-shell = grown-shell;
     balanced = grown-balanced;
   }
+
+-- the two halves come into use, on the loops and round the vertices
+module _ (b : Boundary) (es : List (Option Edge)) (k w v l : ℕ) (e : NewEdge b es k w v l) (k-free : Has (b .edges) k → ⊥) where
+  odd-new : Used b (2 * k + 1) → ⊥
+  odd-new u = new-odd (b .edges) k (2 * k + 1) k-free u refl
+
+  pub owners-more : TwoMore (Used b) (λ j. Has es (j / 2)) (owner b) (λ j. half-in es j .owner) (2 * k) (2 * k + 1)
+  owners-more = record { y-new = odd-new; in-use = e .used-cases; x-in-use = e .used-even; y-in-use = e .used-odd; still-in-use = e .used-in; other-label = e .owner-old }
+
+  pub starts-more : TwoMore (Used b) (λ j. Has es (j / 2)) (start b) (λ j. half-in es j .start) (2 * k) (2 * k + 1)
+  starts-more = record { y-new = odd-new; in-use = e .used-cases; x-in-use = e .used-even; y-in-use = e .used-odd; still-in-use = e .used-in; other-label = e .start-old }
+
+  -- no half-edge started at the new vertex
+  pub new-start : Sound b → (Has (b .vertices) v → ⊥) → (j : ℕ) → Used b j → start b j ≢ half-in es (2 * k + 1) .start
+  new-start s v-free j u q = has-apart (b .vertices) (start b j) v (s .named .start-used j u) v-free (q ∙ e .start-odd)

@@ -7,14 +7,13 @@ use Prim.Native.Nat.{ℕ, _+_, _*_, _-_, _/_, _<_, _≤_}
 use native.Mathlib.Decide.{ℕ-discrete}
 use native.Mathlib.Omega.{arith}
 use lib.Dec.{eqb}
-use lib.ListN.{length, set}
+use lib.ListN.{length}
 use Rattle.std.specs.Options.{isSome, valueOr}
 use Rattle.std.specs.declared.option.Option.{Option}
 use Rattle.std.specs.declared.option.Option.the-variants.{None, Some}
 use Rattle.std.proofs.shelf.Tests.{eqb-true, and-parts}
 use Rattle.boundary.specs.declared.Refusal.the-variants.{Unused, Taken, Condition}
 use Rattle.boundary.specs.declared.Edge.{Edge}
-use Rattle.boundary.specs.declared.Loop.{Loop}
 use Rattle.boundary.specs.declared.Boundary.{Boundary}
 use Rattle.boundary.specs.Tables.{row, used, half-in, half-used, start, next, owner, mate, lone, lone-of, face-of, outer-of, loop-face, face-shell, loop-shell, is-half-place, place-loop, place-vertex}
 use Rattle.boundary.specs.Changes.{with-edges, put-edge, put-lone, clear-loop, led, joined, joined-in}
@@ -26,12 +25,13 @@ use Rattle.rings.specs.Euler.{put, swap}
 use Rattle.rings.proofs.Put.{put-same, put-other}
 use Rattle.rings.proofs.Swap.{join-keeps}
 use Rattle.rules.specs.Rules.{Has, Used, turn, Sizes, Named, LoneVertices, Outer, OneShell, Balanced, Sound}
-use Rattle.rules.proofs.Rows.{some-value, true-T, not-eqb, unless-none, free-not-has, has-below, row-put-same, row-put-other, length-put, has-put-other-in, has-put-again, has-clear-in, has-clear-out, lone-has, none-not-some, some-same}
-use Rattle.rules.proofs.Counts.{count-put-free, count-put-used, count-clear}
+use Rattle.rules.proofs.Rows.{some-value, true-T, not-eqb, unless-none, free-not-has, row-put-other, length-put, has-clear-in, has-clear-out, lone-has, none-not-some, some-same}
+use Rattle.rules.proofs.Counts.{count-put-free, count-clear}
 use Rattle.rules.proofs.Halves.{half-of-even, mate-of-even, mate-of-odd, used-mate, new-edge, new-even, new-odd, put-even, put-odd, half-put-other, put-used-even, put-used-odd, put-used-in, put-used-cases, joined-hit, joined-miss}
 use Rattle.rules.proofs.Views.{loop-rings, vertex-rings, next-used-by, loop-rings-by, vertex-rings-by, continues-by, HasHalf, Placed}
 use Rattle.rules.proofs.Enter.{EnteredTwo, enter-two-keeps}
 use Rattle.rules.proofs.Led.{Alike, joined-alike, led-twice, twice-has-in, twice-has-out, twice-length, twice-count, twice-start, twice-owner, twice-first, twice-second, twice-other}
+use Rattle.rules.proofs.Fields.{with-lone, lone-has-in, lone-has-out, lone-other-row, lone-face, lone-row, lone-length, lone-count}
 
 -- the edges but the new one, where the ends have the targets p and q and lie on the loops l and m
 abbrev pub table : List (Option Edge) → Option ℕ → Option ℕ → ℕ → ℕ → ℕ → List (Option Edge)
@@ -327,25 +327,19 @@ module _ (b : Boundary) (p q : Option ℕ) (l m v w k : ℕ) (s : Sound b) (j : 
   new-vertices = enter-two-keeps (vertex-rings b s) vertices-entered
 
   -- the loops in use, and their fields
-  abbrev pub empty : Loop
-  empty = record { face = face-of (row (b .loops) l); lone = None }
-
   loop-in : (n : ℕ) → n ≢ m → Has (b .loops) n → Has (new .loops) n
-  loop-in n ne u = has-clear-in (set (b .loops) l (Some empty)) m n ne (has-put-other-in (b .loops) l n empty u)
+  loop-in n ne u = has-clear-in (with-lone (b .loops) l None) m n ne (lone-has-in (b .loops) l None n u)
 
   loop-out : (n : ℕ) → Has (new .loops) n → Has (b .loops) n × (n ≢ m)
   loop-out n u =
-      let o = has-clear-out (set (b .loops) l (Some empty)) m n u in
-      (has-put-again (b .loops) l n empty (j .from .loop-used) (o .0), o .1)
-
-  loop-here : row (new .loops) l ≡ Some empty
-  loop-here = row-put-other (set (b .loops) l (Some empty)) m l None (j .apart) ∙ row-put-same (b .loops) l (Some empty) (has-below (b .loops) l (j .from .loop-used))
+      let o = has-clear-out (with-lone (b .loops) l None) m n u in
+      (lone-has-out (b .loops) l None (j .from .loop-used) n (o .0), o .1)
 
   pub loop-there : (n : ℕ) → n ≢ l → n ≢ m → row (new .loops) n ≡ row (b .loops) n
-  loop-there n nl nm = row-put-other (set (b .loops) l (Some empty)) m n None nm ∙ row-put-other (b .loops) l n (Some empty) nl
+  loop-there n nl nm = row-put-other (with-lone (b .loops) l None) m n None nm ∙ lone-other-row (b .loops) l None n nl
 
   lone-here : lone new l ≡ None
-  lone-here = ap lone-of loop-here
+  lone-here = ap lone-of (row-put-other (with-lone (b .loops) l None) m l None (j .apart) ∙ lone-row (b .loops) l None (j .from .loop-used))
 
   lone-in : (n i : ℕ) → n ≢ l → n ≢ m → lone b n ≡ Some i → lone new n ≡ Some i
   lone-in n i nl nm e = ap lone-of (loop-there n nl nm) ∙ e
@@ -357,10 +351,7 @@ module _ (b : Boundary) (p q : Option ℕ) (l m v w k : ℕ) (s : Sound b) (j : 
       (nl, nm, sym (ap lone-of (loop-there n nl nm)) ∙ e)
 
   face-is : (n : ℕ) → n ≢ m → loop-face new n ≡ loop-face b n
-  face-is n nm = elim (ℕ-discrete n l) [
-    | yes e ↦ ap (loop-face new) e ∙ ap face-of loop-here ∙ ap (loop-face b) (sym e)
-    | no nl ↦ ap face-of (loop-there n nl nm)
-  ]
+  face-is n nm = ap face-of (row-put-other (with-lone (b .loops) l None) m n None nm) ∙ lone-face (b .loops) l None (j .from .loop-used) n
 
   -- the loop that goes is no outer loop
   outer-apart : (f : ℕ) → Has (b .faces) f → outer-of (row (b .faces) f) ≢ m
@@ -370,7 +361,7 @@ module _ (b : Boundary) (p q : Option ℕ) (l m v w k : ℕ) (s : Sound b) (j : 
   sizes = record {
     shells = s .sizes .shells;
     faces = s .sizes .faces;
-    loops = length-put (set (b .loops) l (Some empty)) m None ∙ length-put (b .loops) l (Some empty) ∙ s .sizes .loops;
+    loops = length-put (with-lone (b .loops) l None) m None ∙ lone-length (b .loops) l None ∙ s .sizes .loops;
     edges = length-put twice k _ ∙ same-length ∙ s .sizes .edges;
     vertices = s .sizes .vertices;
   }
@@ -497,7 +488,7 @@ module _ (b : Boundary) (p q : Option ℕ) (l m v w k : ℕ) (s : Sound b) (j : 
 
   balanced : Balanced new
   balanced =
-      omega (arith, s .balanced, twice-count (b .edges) relabelled p X q Y alike, count-put-free twice k ends below (λ u. j .edge-free (out k u)), count-put-used (b .loops) l empty (j .from .loop-used), count-clear (set (b .loops) l (Some empty)) m (has-put-other-in (b .loops) l m empty (j .to .loop-used)))
+      omega (arith, s .balanced, twice-count (b .edges) relabelled p X q Y alike, count-put-free twice k ends below (λ u. j .edge-free (out k u)), lone-count (b .loops) l None (j .from .loop-used), count-clear (with-lone (b .loops) l None) m (lone-has-in (b .loops) l None m (j .to .loop-used)))
 
   sound : Sound new
   sound = record {

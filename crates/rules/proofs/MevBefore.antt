@@ -16,12 +16,12 @@ use Rattle.boundary.specs.Operators.{half-edge, edge, mev-before}
 use Rattle.rings.specs.Rings.{Rings}
 use Rattle.rings.proofs.Facts.{before}
 use Rattle.rules.specs.Rules.{Has, Used, turn, Sound}
-use Rattle.rules.proofs.Rows.{has-apart, has-map-in, has-map-out, length-put, length-mapped}
+use Rattle.rules.proofs.Rows.{has-map-in, has-map-out, length-put, length-mapped}
 use Rattle.rules.proofs.Counts.{count-put-free, count-map}
-use Rattle.rules.proofs.Halves.{mate-of-even, mate-of-odd, mate-mate, used-mate, new-edge, new-odd, put-even, put-odd, half-put-other, put-used-even, put-used-odd, put-used-in, put-used-cases, led-start, led-owner, led-hit, led-miss}
+use Rattle.rules.proofs.Halves.{mate-of-even, mate-of-odd, mate-mate, used-mate, new-edge, put-even, put-odd, half-put-other, put-used-even, put-used-odd, put-used-in, put-used-cases, led-start, led-owner, led-hit, led-miss}
 use Rattle.rules.proofs.Views.{loop-rings, vertex-rings}
-use Rattle.rules.proofs.Added.{TwoMore, pair-inserted, one-inserted}
-use Rattle.rules.proofs.Grown.{NewEdge, LoopsFor, grown-sound}
+use Rattle.rules.proofs.Added.{pair-inserted, one-inserted}
+use Rattle.rules.proofs.Grown.{NewEdge, LoopsFor, grown-sound, owners-more, starts-more, new-start}
 
 -- the new edge, and the edges with it
 abbrev pub before-edge : Boundary → ℕ → ℕ → ℕ → Edge
@@ -110,29 +110,20 @@ module _ (b : Boundary) (h k v : ℕ) (s : Sound b) (h-used : Used b h) (k-small
   not-q : (j : ℕ) → Used b j → j ≢ q → next b j ≢ h
   not-q j u ne e = ne (s .continues .apart j q u q-used (e ∙ sym q-next))
 
-  odd-new : Used b (2 * k + 1) → ⊥
-  odd-new u = new-odd (b .edges) k (2 * k + 1) k-free u refl
-
   abbrev Now : ℕ → Type 0
   Now j = Has es (j / 2)
 
   loops-then : Rings (λ j. half-in es j .next) Now (λ j. half-in es j .owner)
   loops-then =
-      pair-inserted more (loop-rings b s) q q-used (next-hit q q-used q-next) next-even (next-odd ∙ sym q-next) (λ j u ne. next-miss j u (not-q j u ne)) (new-edge-is .owner-even ∙ owner-q) (new-edge-is .owner-odd ∙ owner-q)
+      pair-inserted (owners-more b es k (start b h) v (owner b h) new-edge-is k-free) (loop-rings b s) q q-used (next-hit q q-used q-next) next-even (next-odd ∙ sym q-next) (λ j u ne. next-miss j u (not-q j u ne)) (new-edge-is .owner-even ∙ owner-q) (new-edge-is .owner-odd ∙ owner-q)
     where
-      more : TwoMore (Used b) Now (owner b) (λ j. half-in es j .owner) (2 * k) (2 * k + 1)
-      more = record { y-new = odd-new; in-use = cases; x-in-use = new-edge-is .used-even; y-in-use = new-edge-is .used-odd; still-in-use = old-in; other-label = new-edge-is .owner-old }
-
       owner-q : owner b h ≡ owner b q
       owner-q = ap (owner b) (sym q-next) ∙ s .loops .stays q q-used
 
   vertices-then : (Has (b .vertices) v → ⊥) → Rings (λ j. half-in es (mate j) .next) Now (λ j. half-in es j .start)
   vertices-then v-free =
-      one-inserted more (vertex-rings b s) (mate q) (used-mate b q q-used) to-even (ap (λ j. half-in es j .next) (mate-of-even k) ∙ next-odd ∙ sym turn-q) (ap (λ j. half-in es j .next) (mate-of-odd k) ∙ next-even) other (new-edge-is .start-even ∙ start-q) fresh
+      one-inserted (starts-more b es k (start b h) v (owner b h) new-edge-is k-free) (vertex-rings b s) (mate q) (used-mate b q q-used) to-even (ap (λ j. half-in es j .next) (mate-of-even k) ∙ next-odd ∙ sym turn-q) (ap (λ j. half-in es j .next) (mate-of-odd k) ∙ next-even) other (new-edge-is .start-even ∙ start-q) (new-start b es k (start b h) v (owner b h) new-edge-is k-free s v-free)
     where
-      more : TwoMore (Used b) Now (start b) (λ j. half-in es j .start) (2 * k) (2 * k + 1)
-      more = record { y-new = odd-new; in-use = cases; x-in-use = new-edge-is .used-even; y-in-use = new-edge-is .used-odd; still-in-use = old-in; other-label = new-edge-is .start-old }
-
       turn-q : turn b (mate q) ≡ h
       turn-q = ap (next b) (mate-mate q) ∙ q-next
 
@@ -144,9 +135,6 @@ module _ (b : Boundary) (h k v : ℕ) (s : Sound b) (h-used : Used b h) (k-small
 
       start-q : start b h ≡ start b (mate q)
       start-q = ap (start b) (sym q-next) ∙ s .continues .goes-on q q-used
-
-      fresh : (j : ℕ) → Used b j → start b j ≢ half-in es (2 * k + 1) .start
-      fresh j u e = has-apart (b .vertices) (start b j) v (s .named .start-used j u) v-free (e ∙ new-edge-is .start-odd)
 
   pub before-sound : (p : Point) → (Has (b .vertices) v → ⊥) → v < 128 → Sound (mev-before b h k v p)
   before-sound p v-free v-small =

@@ -1,5 +1,5 @@
 -- The new edge k at a loop l with a lone vertex w: 2k and 2k + 1 become its ring, and the rules are kept.
-use mathlib.Core.Path.{_≡_, refl, sym, ap, _∙_}
+use mathlib.Core.Path.{_≡_, sym, ap, _∙_}
 use mathlib.Core.Logic.{_≢_, _⊎_, inl, inr}
 use mathlib.Core.List.{List}
 use Prim.Native.Nat.{ℕ, _+_, _*_, _/_, _<_}
@@ -12,16 +12,17 @@ use Rattle.boundary.specs.declared.Point.{Point}
 use Rattle.boundary.specs.declared.Edge.{Edge}
 use Rattle.boundary.specs.declared.Loop.{Loop}
 use Rattle.boundary.specs.declared.Boundary.{Boundary}
-use Rattle.boundary.specs.Tables.{row, half-in, start, next, owner, mate, lone, lone-of, face-of, loop-face}
+use Rattle.boundary.specs.Tables.{row, half-in, start, next, owner, mate, lone, lone-of}
 use Rattle.boundary.specs.Operators.{half-edge, edge}
 use Rattle.rings.specs.Rings.{Rings}
 use Rattle.rules.specs.Rules.{Has, Used, Sound}
-use Rattle.rules.proofs.Rows.{none-not-some, some-same, has-below, has-apart, lone-has, row-put-same, row-put-other, has-put-other-in, has-put-again, length-put}
-use Rattle.rules.proofs.Counts.{count-put-free, count-put-used}
-use Rattle.rules.proofs.Halves.{mate-of-even, mate-of-odd, used-mate, new-edge, new-odd, put-even, put-odd, half-put-other, put-used-even, put-used-odd, put-used-in, put-used-cases}
+use Rattle.rules.proofs.Rows.{none-not-some, some-same, has-apart, lone-has, length-put}
+use Rattle.rules.proofs.Counts.{count-put-free}
+use Rattle.rules.proofs.Halves.{mate-of-even, mate-of-odd, used-mate, new-edge, put-even, put-odd, half-put-other, put-used-even, put-used-odd, put-used-in, put-used-cases}
 use Rattle.rules.proofs.Views.{loop-rings, vertex-rings}
-use Rattle.rules.proofs.Added.{TwoMore, pair-started, two-started}
-use Rattle.rules.proofs.Grown.{NewEdge, LoopsFor, grown, grown-sound}
+use Rattle.rules.proofs.Added.{pair-started, two-started}
+use Rattle.rules.proofs.Grown.{NewEdge, LoopsFor, grown, grown-sound, owners-more, starts-more, new-start}
+use Rattle.rules.proofs.Fields.{with-lone, lone-has-in, lone-has-out, lone-other-row, lone-face, lone-row, lone-length, lone-count}
 
 abbrev pub ring-edge : ℕ → ℕ → ℕ → ℕ → Edge
 ring-edge l k w v = edge (half-edge w (2 * k + 1) l) (half-edge v (2 * k) l)
@@ -30,11 +31,8 @@ abbrev pub ring-edges : Boundary → ℕ → ℕ → ℕ → ℕ → List (Optio
 ring-edges b l k w v = set (b .edges) k (Some (ring-edge l k w v))
 
 -- the loop l without its lone vertex
-abbrev pub bare-loop : Boundary → ℕ → Loop
-bare-loop b l = record { face = loop-face b l; lone = None }
-
 abbrev pub bare-loops : Boundary → ℕ → List (Option Loop)
-bare-loops b l = set (b .loops) l (Some (bare-loop b l))
+bare-loops b l = with-lone (b .loops) l None
 
 module _ (b : Boundary) (l k v w : ℕ) (s : Sound b) (w-lone : lone b l ≡ Some w) (k-small : k < 192) (k-free : Has (b .edges) k → ⊥) where
   abbrev pub es : List (Option Edge)
@@ -82,30 +80,24 @@ module _ (b : Boundary) (l k v w : ℕ) (s : Sound b) (w-lone : lone b l ≡ Som
   }
 
   -- the loops then
-  row-here : row ls l ≡ Some (bare-loop b l)
-  row-here = row-put-same (b .loops) l (Some (bare-loop b l)) (has-below (b .loops) l l-used)
-
   pub row-other : (m : ℕ) → m ≢ l → row ls m ≡ row (b .loops) m
-  row-other m ne = row-put-other (b .loops) l m _ ne
+  row-other = lone-other-row (b .loops) l None
 
   lone-gone : (m u : ℕ) → lone-of (row ls m) ≡ Some u → m ≢ l
-  lone-gone m u e q = none-not-some (ap (λ i. lone-of (row ls i)) q ∙ ap lone-of row-here) e
+  lone-gone m u e q = none-not-some (ap (λ i. lone-of (row ls i)) q ∙ ap lone-of (lone-row (b .loops) l None l-used)) e
 
   lone-before : (m u : ℕ) → lone-of (row ls m) ≡ Some u → lone b m ≡ Some u
   lone-before m u e = sym (ap lone-of (row-other m (lone-gone m u e))) ∙ e
 
   loops-for : LoopsFor b ls w l
   loops-for = record {
-    size = length-put (b .loops) l _;
-    counted = count-put-used (b .loops) l (bare-loop b l) l-used;
-    has-in = λ m u. has-put-other-in (b .loops) l m (bare-loop b l) u;
-    has-out = λ m u. has-put-again (b .loops) l m (bare-loop b l) l-used u;
-    face-same = λ m. elim (ℕ-discrete m l) [
-      | yes e ↦ ap (λ i. face-of (row ls i)) e ∙ ap face-of row-here ∙ ap (loop-face b) (sym e)
-      | no ne ↦ ap face-of (row-other m ne)
-    ];
+    size = lone-length (b .loops) l None;
+    counted = lone-count (b .loops) l None l-used;
+    has-in = lone-has-in (b .loops) l None;
+    has-out = lone-has-out (b .loops) l None l-used;
+    face-same = lone-face (b .loops) l None l-used;
     lone-out = lone-before;
-    lone-not-w = λ m u e q. lone-gone m u e (s .lone .one-loop m l u (lone-before m u e) (w-lone ∙ ap (λ i. Some i) (sym q)));
+    lone-not-w = λ m u e q. lone-gone m u e (s .lone .one-loop m l u (lone-before m u e) (w-lone ∙ ap Some (sym q)));
     lone-not-l = lone-gone;
     lone-none = λ m e. elim (ℕ-discrete m l) [ yes q ↦ inl q | no ne ↦ inr (sym (ap lone-of (row-other m ne)) ∙ e) ];
     lone-still = λ m u e. elim (ℕ-discrete m l) [
@@ -114,30 +106,18 @@ module _ (b : Boundary) (l k v w : ℕ) (s : Sound b) (w-lone : lone b l ≡ Som
     ];
   }
 
-  odd-new : Used b (2 * k + 1) → ⊥
-  odd-new u = new-odd (b .edges) k (2 * k + 1) k-free u refl
-
   abbrev Now : ℕ → Type 0
   Now j = Has es (j / 2)
 
   loops-then : Rings (λ j. half-in es j .next) Now (λ j. half-in es j .owner)
-  loops-then = pair-started more (loop-rings b s) next-even next-odd next-old (new-edge-is .owner-even ∙ sym (new-edge-is .owner-odd)) (λ j u e. s .lone .lone-alone l w j w-lone u (e ∙ new-edge-is .owner-odd))
-    where
-      more : TwoMore (Used b) Now (owner b) (λ j. half-in es j .owner) (2 * k) (2 * k + 1)
-      more = record { y-new = odd-new; in-use = cases; x-in-use = new-edge-is .used-even; y-in-use = new-edge-is .used-odd; still-in-use = new-edge-is .used-in; other-label = new-edge-is .owner-old }
+  loops-then = pair-started (owners-more b es k w v l new-edge-is k-free) (loop-rings b s) next-even next-odd next-old (new-edge-is .owner-even ∙ sym (new-edge-is .owner-odd)) (λ j u e. s .lone .lone-alone l w j w-lone u (e ∙ new-edge-is .owner-odd))
 
   vertices-then : (Has (b .vertices) v → ⊥) → Rings (λ j. half-in es (mate j) .next) Now (λ j. half-in es j .start)
   vertices-then v-free =
-      two-started more (vertex-rings b s) (ap (λ j. half-in es j .next) (mate-of-even k) ∙ next-odd) (ap (λ j. half-in es j .next) (mate-of-odd k) ∙ next-even) (λ j u. next-old (mate j) (used-mate b j u)) fresh-w fresh-v apart
+      two-started (starts-more b es k w v l new-edge-is k-free) (vertex-rings b s) (ap (λ j. half-in es j .next) (mate-of-even k) ∙ next-odd) (ap (λ j. half-in es j .next) (mate-of-odd k) ∙ next-even) (λ j u. next-old (mate j) (used-mate b j u)) fresh-w (new-start b es k w v l new-edge-is k-free s v-free) apart
     where
-      more : TwoMore (Used b) Now (start b) (λ j. half-in es j .start) (2 * k) (2 * k + 1)
-      more = record { y-new = odd-new; in-use = cases; x-in-use = new-edge-is .used-even; y-in-use = new-edge-is .used-odd; still-in-use = new-edge-is .used-in; other-label = new-edge-is .start-old }
-
       fresh-w : (j : ℕ) → Used b j → start b j ≢ half-in es (2 * k) .start
       fresh-w j u e = s .lone .not-both l w j w-lone u (e ∙ new-edge-is .start-even)
-
-      fresh-v : (j : ℕ) → Used b j → start b j ≢ half-in es (2 * k + 1) .start
-      fresh-v j u e = has-apart (b .vertices) (start b j) v (s .named .start-used j u) v-free (e ∙ new-edge-is .start-odd)
 
       apart : half-in es (2 * k + 1) .start ≢ half-in es (2 * k) .start
       apart e = has-apart (b .vertices) w v (s .named .lone-used l w w-lone) v-free (sym (new-edge-is .start-even) ∙ sym e ∙ new-edge-is .start-odd)

@@ -22,13 +22,14 @@ use Rattle.boundary.specs.Changes.{clear-shell, clear-face, clear-loop, clear-v
 use Rattle.boundary.specs.Operators.{face-in, kvfs, mvfs, kev, mev, mev-before, mev-lone}
 use Rattle.boundary.specs.Refusals.{mvfs-refusal, mev-refusal}
 use Rattle.rules.specs.Rules.{Has, Used, Sound}
-use Rattle.rules.proofs.Rows.{has-below, no-row, row-has, lone-has, row-put-same, row-put-other, row-map, length-put, length-mapped}
+use Rattle.rules.proofs.Rows.{no-row, row-has, lone-has, row-put-same, row-put-other, row-map, length-put, length-mapped}
 use Rattle.rules.proofs.Counts.{part-counted, first-part-in}
 use Rattle.rules.proofs.Halves.{half-of-even, half-even, half-odd, mate-of-even, new-even, half-of-odd}
 use Rattle.rules.proofs.Mev.{Free, mev-free, mev-at-half, mev-at-lone}
 use Rattle.rules.proofs.MevBefore.{before-edges, next-odd as before-next-odd, new-edge-is as before-new-edge}
-use Rattle.rules.proofs.MevLone.{ring-edges, bare-loop, bare-loops, next-odd as lone-next-odd, new-edge-is as lone-new-edge}
+use Rattle.rules.proofs.MevLone.{ring-edges, bare-loops, next-odd as lone-next-odd, new-edge-is as lone-new-edge}
 use Rattle.rules.proofs.Mvfs.{Fresh, fresh}
+use Rattle.rules.proofs.Fields.{lone-row}
 
 -- a table that differs from t at k alone is t again once its row k is
 pub put-back : {X : Type 0} (t z : List (Option X)) (k : ℕ) (r : Option X) → length z ≡ length t → row t k ≡ r → ((i : ℕ) → i ≢ k → row z i ≡ row t i) → set z k r ≡ t
@@ -167,12 +168,9 @@ module _ (b : Boundary) (l k v w : ℕ) (p : Point) (s : Sound b) (w-lone : lone
   ring-back = put-back (b .edges) (led-in (ring-edges b l k w v) (2 * k) (2 * k)) k None (length-mapped (led-edge (2 * k) (2 * k)) (ring-edges b l k w v) ∙ length-put (b .edges) k _) (no-row (b .edges) k (rows .edge)) (λ i ne.
       row-map (led-edge (2 * k) (2 * k)) (ring-edges b l k w v) i ∙ ap (mapped (led-edge (2 * k) (2 * k))) (row-put-other (b .edges) k i _ ne) ∙ led-row-not (2 * k) (2 * k) (row (b .edges) i) (nothing-leads b s k i (rows .edge)))
 
-  bare-row : row (bare-loops b l) l ≡ Some (bare-loop b l)
-  bare-row = row-put-same (b .loops) l (Some (bare-loop b l)) (has-below (b .loops) l (lone-has b l w w-lone))
-
   loops-back : set (bare-loops b l) l (Some (record { face = face-of (row (bare-loops b l) l); lone = Some w })) ≡ b .loops
   loops-back =
-      put-back (b .loops) (bare-loops b l) l _ (length-put (b .loops) l _) (loop-is (row (b .loops) l) w w-lone ∙ ap (λ f. Some (record { face = f; lone = Some w })) (sym (ap face-of bare-row))) (λ i ne. row-put-other (b .loops) l i _ ne)
+      put-back (b .loops) (bare-loops b l) l _ (length-put (b .loops) l _) (loop-is (row (b .loops) l) w w-lone ∙ ap (λ f. Some (record { face = f; lone = Some w })) (sym (ap face-of (lone-row (b .loops) l None (lone-has b l w w-lone))))) (λ i ne. row-put-other (b .loops) l i _ ne)
 
   lone-undone : kev d (2 * k) ≡ b
   lone-undone =
