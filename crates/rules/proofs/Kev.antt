@@ -3,7 +3,7 @@
 --     LoopsLeft             ls is that of b, but that the start of h is lone on the loop of h where its ring is emptied
 use mathlib.Core.Path.{_≡_, refl, sym, ap, subst, _∙_}
 use mathlib.Core.Logic.{_≢_, _⊎_, inl, inr}
-use mathlib.Core.Bool.{Bool, true, false}
+use mathlib.Core.Bool.{Bool}
 use mathlib.Core.List.{List}
 use Prim.Native.Nat.{ℕ, _/_, _<_}
 use native.Mathlib.Decide.{ℕ-discrete}
@@ -12,23 +12,40 @@ use lib.Dec.{eqb}
 use lib.ListN.{length, set}
 use Rattle.std.specs.declared.option.Option.{Option}
 use Rattle.std.specs.declared.option.Option.the-variants.{None, Some}
-use Rattle.std.proofs.shelf.Tests.{eqb-true, eqb-false}
+use Rattle.std.proofs.shelf.Tests.{eqb-true, eq-eqb, ne-eqb}
 use Rattle.boundary.specs.declared.Loop.{Loop}
 use Rattle.boundary.specs.declared.Boundary.{Boundary}
 use Rattle.boundary.specs.declared.Refusal.the-variants.{Unused, Condition}
 use Rattle.boundary.specs.Tables.{row, count, half-used, start, next, owner, mate, lone, lone-of, face-of, outer-of, loop-face, face-shell, loop-shell}
-use Rattle.boundary.specs.Changes.{clear-vertex, clear-edge, emptied, led}
+use Rattle.boundary.specs.Changes.{clear-vertex, clear-edge, led}
 use Rattle.boundary.specs.Operators.{kev}
 use Rattle.boundary.specs.Refusals.{unless, kev-refusal}
-use Rattle.rules.specs.Rules.{Has, Used, Sizes, Named, LoneVertices, Outer, OneShell, Balanced, Sound}
-use Rattle.rules.proofs.Rows.{true-T, unless-none, none-not-some, some-same, has-below, row-put-same, row-put-other, has-put-other-in, has-put-again, has-clear-in, has-clear-out, length-put}
-use Rattle.rules.proofs.Counts.{count-put-used, count-clear}
-use Rattle.rules.proofs.Halves.{mate-apart, used-mate}
+use Rattle.rules.specs.Rules.{Has, Used, Sizes, Named, LoneVertices, Outer, OneShell, Balanced, Sound, turn}
+use Rattle.rules.proofs.Rows.{true-T, unless-none, none-not-some, some-same, has-clear-in, has-clear-out, length-put}
+use Rattle.rules.proofs.Counts.{count-clear}
+use Rattle.rules.proofs.Halves.{mate-apart, used-mate, mate-mate}
 use Rattle.rules.proofs.Views.{loop-rings-by, vertex-rings-by, continues-by, HasHalf, Placed}
-use Rattle.rules.proofs.KevHalves.{kev-edges, mate-used-too, left-in, left-out, left-start, left-owner, left-size, left-count, left-loops, left-vertices, only-mate, same-loop, none-on-loop, none-at-start, after-left, after-owner, after-start}
+use Rattle.rules.proofs.KevHalves.{kev-edges, mate-used-too, left-in, left-out, left-start, left-owner, left-size, left-count, left-loops, only-mate, same-loop, none-on-loop, none-at-start, after-left, after-owner, after-start, left-hit, left-miss, after-not-mate}
+use Rattle.rules.proofs.Erase.{Gone, start-was, turns-left, past-on, lone-put, emptied-is, lone-put-has-in, lone-put-has-out, lone-put-other, lone-put-face, lone-put-true, lone-put-false, lone-put-length, lone-put-count}
+use Rattle.rings.specs.Rings.{Rings}
 
 abbrev pub shrunk : Boundary → List (Option Loop) → ℕ → Boundary
 shrunk b ls h = record { shells = b .shells; faces = b .faces; loops = ls; edges = kev-edges b h; vertices = set (b .vertices) (start b (mate h)) None; handles = b .handles }
+
+-- both halves are gone, whatever the loops are
+pub shrunk-gone : (b : Boundary) (ls : List (Option Loop)) (h : ℕ) → Sound b → Used b h → next b h ≡ mate h → Gone b (shrunk b ls h) h (mate h)
+shrunk-gone b ls h s h-used to-mate = record {
+  x-used = h-used;
+  y-used = mate-used-too b h s h-used to-mate;
+  mate-x = refl;
+  mate-y = mate-mate h;
+  in-use = left-out b h s h-used to-mate;
+  still-in-use = left-in b h s h-used to-mate;
+  old-start = λ j u n m. left-start b h s h-used to-mate j n m;
+  to-x = λ j u n m e. left-hit b h s h-used to-mate j u n m e ∙ sym (past-on b h (mate h) (after-not-mate b h s h-used to-mate));
+  to-y = λ j u n m e. absurd (n (s .continues .apart j h u h-used (e ∙ sym to-mate)));
+  elsewhere = λ j u n m nh nm. left-miss b h s h-used to-mate j u n m nh;
+}
 
 pub record LoopsLeft (b : Boundary) (ls : List (Option Loop)) (h : ℕ) : Type 0 where
   pub size : length ls ≡ length (b .loops)
@@ -55,7 +72,7 @@ module _ (b : Boundary) (ls : List (Option Loop)) (h : ℕ) (s : Sound b) (h-use
   out = left-out b h s h-used to-mate
 
   start-same : (j : ℕ) → Used c j → start c j ≡ start b j
-  start-same j u = left-start b h s h-used to-mate j (out j u .1) (out j u .2)
+  start-same = start-was b c h (mate h) s (shrunk-gone b ls h s h-used to-mate)
 
   owner-same : (j : ℕ) → Used c j → owner c j ≡ owner b j
   owner-same j u = left-owner b h s h-used to-mate j (out j u .1) (out j u .2)
@@ -187,85 +204,72 @@ module _ (b : Boundary) (ls : List (Option Loop)) (h : ℕ) (s : Sound b) (h-use
   shrunk-balanced : Balanced c
   shrunk-balanced = omega (arith, s .balanced, o .counted, left-count b h s h-used to-mate, count-clear (b .vertices) v v-used)
 
-  pub shrunk-sound : Sound c
+  new-turns : Rings (turn c) (Used c) (start c)
+  new-turns = turns-left b c h (mate h) s (shrunk-gone b ls h s h-used to-mate)
+
+  shrunk-sound : Sound c
   shrunk-sound = record {
     sizes = shrunk-sizes;
     named = shrunk-named;
-    continues = continues-by c (left-loops b h s h-used to-mate) (left-vertices b h s h-used to-mate);
+    continues = continues-by c (left-loops b h s h-used to-mate) new-turns;
     loops = loop-rings-by c (left-loops b h s h-used to-mate);
-    vertices = vertex-rings-by c (left-vertices b h s h-used to-mate);
+    vertices = vertex-rings-by c new-turns;
     lone = shrunk-lone;
     outer = shrunk-outer;
     one-shell = shrunk-shell;
     balanced = shrunk-balanced;
   }
 
--- the loops as they were, where the ring is not emptied
-loops-as-were : (b : Boundary) (h : ℕ) → next b (mate h) ≢ h → LoopsLeft b (b .loops) h
-loops-as-were b h ne = record {
-  size = refl;
-  counted = refl;
-  has-in = λ m u. u;
-  has-out = λ m u. u;
-  face-same = λ m. refl;
-  lone-cases = λ m u e. inl e;
-  lone-none = λ m e. (e, λ q. ne);
-  lone-still = λ m u e. e;
-  lone-then = λ e. absurd (ne e);
-}
+-- the loops then: where the ring is emptied, the start of h is lone on its loop
+abbrev pub emptied-loops : Boundary → ℕ → List (Option Loop)
+emptied-loops b h = lone-put (eqb (next b (mate h)) h) (b .loops) (owner b h) (start b h)
 
--- and where it is, the start of h is lone on its loop
-abbrev pub lone-loop : Boundary → ℕ → Loop
-lone-loop b h = record { face = loop-face b (owner b h); lone = Some (start b h) }
-
-abbrev pub lone-loops : Boundary → ℕ → List (Option Loop)
-lone-loops b h = set (b .loops) (owner b h) (Some (lone-loop b h))
-
-module _ (b : Boundary) (h : ℕ) (s : Sound b) (h-used : Used b h) (e : next b (mate h) ≡ h) where
+module _ (b : Boundary) (h : ℕ) (s : Sound b) (h-used : Used b h) where
   abbrev l : ℕ
   l = owner b h
+
+  abbrev back : Bool
+  back = eqb (next b (mate h)) h
 
   l-used : Has (b .loops) l
   l-used = s .named .owner-used h h-used
 
-  row-here : row (lone-loops b h) l ≡ Some (lone-loop b h)
-  row-here = row-put-same (b .loops) l (Some (lone-loop b h)) (has-below (b .loops) l l-used)
+  pub row-other : (m : ℕ) → m ≢ l → row (emptied-loops b h) m ≡ row (b .loops) m
+  row-other m ne = lone-put-other back (b .loops) l (start b h) m ne
 
-  pub lone-here : (m : ℕ) → m ≡ l → lone-of (row (lone-loops b h) m) ≡ Some (start b h)
-  lone-here m q = ap (λ i. lone-of (row (lone-loops b h) i)) q ∙ ap lone-of row-here
+  pub lone-here : next b (mate h) ≡ h → (m : ℕ) → m ≡ l → lone-of (row (emptied-loops b h) m) ≡ Some (start b h)
+  lone-here e m q = ap (λ i. lone-of (row (emptied-loops b h) i)) q ∙ lone-put-true back (b .loops) l (start b h) l-used (eq-eqb (next b (mate h)) h e)
 
-  pub row-other : (m : ℕ) → m ≢ l → row (lone-loops b h) m ≡ row (b .loops) m
-  row-other m ne = row-put-other (b .loops) l m _ ne
+  lone-as-was : next b (mate h) ≢ h → (m : ℕ) → lone-of (row (emptied-loops b h) m) ≡ lone b m
+  lone-as-was ne m = ap lone-of (lone-put-false back (b .loops) l (start b h) m (ne-eqb (next b (mate h)) h ne))
 
-  loops-emptied : LoopsLeft b (lone-loops b h) h
-  loops-emptied = record {
-    size = length-put (b .loops) l _;
-    counted = count-put-used (b .loops) l (lone-loop b h) l-used;
-    has-in = λ m u. has-put-other-in (b .loops) l m (lone-loop b h) u;
-    has-out = λ m u. has-put-again (b .loops) l m (lone-loop b h) l-used u;
-    face-same = λ m. elim (ℕ-discrete m l) [
-      | yes q ↦ ap (λ i. face-of (row (lone-loops b h) i)) q ∙ ap face-of row-here ∙ ap (loop-face b) (sym q)
-      | no ne ↦ ap face-of (row-other m ne)
-    ];
+  loops-left : LoopsLeft b (emptied-loops b h) h
+  loops-left = record {
+    size = lone-put-length back (b .loops) l (start b h);
+    counted = lone-put-count back (b .loops) l (start b h) l-used;
+    has-in = lone-put-has-in back (b .loops) l (start b h);
+    has-out = λ m u. lone-put-has-out back (b .loops) l (start b h) m l-used u;
+    face-same = λ m. lone-put-face back (b .loops) l (start b h) m l-used;
     lone-cases = λ m u a. elim (ℕ-discrete m l) [
-      | yes q ↦ inr (q, some-same a (lone-here m q), e)
       | no ne ↦ inl (sym (ap lone-of (row-other m ne)) ∙ a)
+      | yes q ↦ elim (ℕ-discrete (next b (mate h)) h) [
+        | yes e ↦ inr (q, some-same a (lone-here e m q), e)
+        | no ne ↦ inl (sym (lone-as-was ne m) ∙ a)
+      ]
     ];
-    lone-none = λ m a. elim (ℕ-discrete m l) [
-      | yes q ↦ absurd (none-not-some a (lone-here m q))
-      | no ne ↦ (sym (ap lone-of (row-other m ne)) ∙ a, λ q. absurd (ne q))
+    lone-none = λ m a. elim (ℕ-discrete (next b (mate h)) h) [
+      | no ne ↦ (sym (lone-as-was ne m) ∙ a, λ q. ne)
+      | yes e ↦ elim (ℕ-discrete m l) [
+        | yes q ↦ absurd (none-not-some a (lone-here e m q))
+        | no ne ↦ (sym (ap lone-of (row-other m ne)) ∙ a, λ q. absurd (ne q))
+      ]
     ];
     lone-still = λ m u a. ap lone-of (row-other m (λ q. s .lone .lone-alone m u h a h-used (sym q))) ∙ a;
-    lone-then = λ q. lone-here l refl;
+    lone-then = λ e. lone-here e l refl;
   }
 
--- the operator, where it is told whether the ring is emptied
-abbrev pub kev-by : Bool → Boundary → ℕ → Boundary
-kev-by x b h = clear-vertex (clear-edge (emptied x (led b h (next b (mate h))) (owner b h) (start b h)) (h / 2)) (start b (mate h))
-
-kev-by-sound : (x : Bool) (b : Boundary) (h : ℕ) → Sound b → Used b h → next b h ≡ mate h → eqb (next b (mate h)) h ≡ x → Sound (kev-by x b h)
-kev-by-sound true b h s u m e = shrunk-sound b (lone-loops b h) h s u m (loops-emptied b h s u (eqb-true (next b (mate h)) h e))
-kev-by-sound false b h s u m e = shrunk-sound b (b .loops) h s u m (loops-as-were b h (eqb-false (next b (mate h)) h e))
+pub kev-is : (b : Boundary) (h : ℕ) → kev b h ≡ shrunk b (emptied-loops b h) h
+kev-is b h = ap (λ w. clear-vertex (clear-edge w (h / 2)) (start b (mate h))) (emptied-is (eqb (next b (mate h)) h) (led b h (next b (mate h))) (owner b h) (start b h))
 
 -- what an accepted edit says
 pub kev-accepted : (b : Boundary) (h : ℕ) → kev-refusal b h ≡ None → Used b h × (next b h ≡ mate h)
@@ -277,4 +281,4 @@ kev-accepted b h q =
 pub kev-keeps : (b : Boundary) (h : ℕ) → Sound b → h < 384 → kev-refusal b h ≡ None → Sound (kev b h)
 kev-keeps b h s small q =
     let a = kev-accepted b h q in
-    kev-by-sound (eqb (next b (mate h)) h) b h s (a .0) (a .1) refl
+    subst Sound (sym (kev-is b h)) (shrunk-sound b (emptied-loops b h) h s (a .0) (a .1) (loops-left b h s (a .0)))

@@ -13,11 +13,11 @@ use Rattle.boundary.specs.Changes.{led-edge, led-in}
 use Rattle.rings.specs.Rings.{Rings}
 use Rattle.rings.specs.Euler.{put}
 use Rattle.rings.proofs.Put.{put-same, put-other}
-use Rattle.rings.proofs.Single.{drop-keeps, remove-keeps, end-keeps}
+use Rattle.rings.proofs.Single.{drop-keeps, remove-keeps}
 use Rattle.rules.specs.Rules.{Has, Used, turn, Sound}
 use Rattle.rules.proofs.Rows.{has-map-in, has-map-out, length-put, length-mapped}
 use Rattle.rules.proofs.Counts.{count-clear, count-map}
-use Rattle.rules.proofs.Halves.{mate-mate, mate-same, mate-apart, used-mate, other-edge, half-put-other, clear-mates-in, clear-mates-out, led-start, led-owner, led-hit, led-miss}
+use Rattle.rules.proofs.Halves.{mate-mate, mate-apart, used-mate, other-edge, half-put-other, clear-mates-in, clear-mates-out, led-start, led-owner, led-hit, led-miss}
 use Rattle.rules.proofs.Views.{loop-rings, vertex-rings}
 use Rattle.rings.proofs.Facts.{alone-in}
 
@@ -96,33 +96,6 @@ module _ (b : Boundary) (h : ℕ) (s : Sound b) (h-used : Used b h) (to-mate : n
   turn-mate : turn b (mate h) ≡ mate h
   turn-mate = ap (next b) (mate-mate h) ∙ to-mate
 
-  without-mate : Rings (turn b) (λ j. Used b j × (j ≢ mate h)) (start b)
-  without-mate = end-keeps (vertex-rings b s) (record {
-    x-used = mate-used-too;
-    alone = turn-mate;
-    other-step = λ j u n. refl;
-    in-use = λ j u. u;
-    still-in-use = λ j u n. (u, n);
-    other-label = λ j u n. refl;
-  })
-
-  -- the mate of another half-edge is another
-  mates-apart : (j : ℕ) → j ≢ h → mate j ≢ mate h
-  mates-apart j n e = n (mate-same j h e)
-
-  mate-not-h : (j : ℕ) → j ≢ mate h → mate j ≢ h
-  mate-not-h j m e = m (sym (mate-mate j) ∙ ap mate e)
-
-  pub left-vertices : Rings (λ j. half-in es (mate j) .next) Now (λ j. half-in es j .start)
-  left-vertices = drop-keeps without-mate (record {
-    x-used = (h-used, h-not-mate);
-    past = λ j u n e. left-hit (mate j) (used-mate b j (u .0)) (mate-not-h j (u .1)) (mates-apart j n) e;
-    other-step = λ j u n ne. left-miss (mate j) (used-mate b j (u .0)) (mate-not-h j (u .1)) (mates-apart j n) ne;
-    in-use = λ j u. let m = left-out j u in ((m .0, m .2), m .1);
-    still-in-use = λ j u n. left-in j (u .0) n (u .1);
-    other-label = λ j u n. left-start j n (u .1);
-  })
-
   -- no other half-edge starts where the mate does
   pub only-mate : (j : ℕ) → Used b j → start b j ≡ start b (mate h) → j ≡ mate h
   only-mate j u e = alone-in (vertex-rings b s) (mate h) j mate-used-too u turn-mate e
@@ -143,7 +116,7 @@ module _ (b : Boundary) (h : ℕ) (s : Sound b) (h-used : Used b h) (to-mate : n
       m .1 (alone-in (vertex-rings b s) h j h-used (m .0) e (sym (left-start j (m .1) (m .2)) ∙ q))
 
   -- where it is not, the half-edge after the mate is left, on the loop and at the start of h
-  after-not-mate : next b (mate h) ≢ mate h
+  pub after-not-mate : next b (mate h) ≢ mate h
   after-not-mate e = mate-apart h (s .continues .apart (mate h) h mate-used-too h-used (e ∙ sym to-mate))
 
   module _ (ne : next b (mate h) ≢ h) where

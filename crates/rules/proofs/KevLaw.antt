@@ -1,14 +1,11 @@
 -- An edge and the vertex at its end leave their ring, or the start of the edge is lone, and the other rings stay.
 use mathlib.Core.Path.{_≡_, refl, sym, ap, subst, _∙_}
 use mathlib.Core.Logic.{_≢_, inl, inr}
-use mathlib.Core.Bool.{Bool, true, false}
 use mathlib.Core.List.{List, [], _∷_}
 use Prim.Native.Nat.{ℕ, _<_}
-use lib.Dec.{eqb}
 use Rattle.std.specs.shelf.Lists.{Has as In}
 use Rattle.std.specs.declared.option.Option.{Option}
 use Rattle.std.specs.declared.option.Option.the-variants.{None}
-use Rattle.std.proofs.shelf.Tests.{eqb-true, eqb-false}
 use Rattle.boundary.specs.declared.Loop.{Loop}
 use Rattle.boundary.specs.declared.Boundary.{Boundary}
 use Rattle.boundary.specs.Tables.{start, next, owner, mate, lone-of}
@@ -16,8 +13,9 @@ use Rattle.boundary.specs.Refusals.{kev-refusal}
 use Rattle.rules.specs.Rules.{Used, Sound}
 use Rattle.rules.specs.RingLaws.{RingOf, Along, Else, KevLaw}
 use Rattle.rules.proofs.KevHalves.{left-in, left-out, left-owner, left-hit, left-miss, same-loop}
-use Rattle.rules.proofs.Kev.{shrunk, kev-by, kev-accepted, lone-here, row-other}
+use Rattle.rules.proofs.Kev.{shrunk, kev-accepted, lone-here, row-other, shrunk-gone, emptied-loops, kev-is}
 use Rattle.rules.proofs.RingLists.{in-first, in-rest, in-cases, in-not-first, leads-led, Kept, ring-kept}
+use Rattle.rules.proofs.RingsLeft.{kept-without}
 
 module _ (b : Boundary) (h : ℕ) (s : Sound b) (h-used : Used b h) (to-mate : next b h ≡ mate h) where
   -- what is left of the ring of h, whatever the loops are
@@ -50,39 +48,28 @@ module _ (b : Boundary) (h : ℕ) (s : Sound b) (h-used : Used b h) (to-mate : n
 
   -- the rings of the other loops
   module _ (ls : List (Option Loop)) (m : ℕ) (ne : m ≢ owner b h) where
-    other-h : (j : ℕ) → owner b j ≡ m → j ≢ h
-    other-h j e d = ne (sym e ∙ ap (owner b) d)
-
-    other-mate : (j : ℕ) → owner b j ≡ m → j ≢ mate h
-    other-mate j e d = ne (sym e ∙ ap (owner b) d ∙ same-loop b h s h-used to-mate)
-
     left-kept : Kept b (shrunk b ls h) m
-    left-kept = record {
-      used-in = λ j u e. left-in b h s h-used to-mate j u (other-h j e) (other-mate j e);
-      owner-in = λ j u e. left-owner b h s h-used to-mate j (other-h j e) (other-mate j e) ∙ e;
-      next-in = λ j u e. left-miss b h s h-used to-mate j u (other-h j e) (other-mate j e) (other-h (next b j) (s .loops .stays j u ∙ e));
-      used-out = λ j u e. left-out b h s h-used to-mate j u .0;
-      owner-out = λ j u e. let o = left-out b h s h-used to-mate j u in sym (left-owner b h s h-used to-mate j (o .1) (o .2)) ∙ e;
-    }
+    left-kept = kept-without b (shrunk b ls h) h (mate h) m s (shrunk-gone b ls h s h-used to-mate) ne (λ e. ne (e ∙ same-loop b h s h-used to-mate))
+        (λ j u n k e. left-owner b h s h-used to-mate j n k ∙ e)
+        (λ j u e. let o = left-out b h s h-used to-mate j u in sym (left-owner b h s h-used to-mate j (o .1) (o .2)) ∙ e)
 
-  -- where it is told whether the ring is emptied
-  ring-by : (t : Bool) → eqb (next b (mate h)) h ≡ t → (l : ℕ) (hs : List ℕ) → RingOf b l (h ∷ mate h ∷ hs) → Along (kev-by t b h) l hs (start b h)
-  ring-by true e l [] r = lone-here b h s h-used (eqb-true (next b (mate h)) h e) l (sym (r .only h (in-first h (mate h ∷ [])) .1))
-  ring-by true e l (x ∷ xs) r = left-ring _ l x xs r
-  ring-by false e l [] r = absurd (eqb-false (next b (mate h)) h e (r .round .1))
-  ring-by false e l (x ∷ xs) r = left-ring _ l x xs r
+  abbrev now : Boundary
+  now = shrunk b (emptied-loops b h) h
 
-  else-by : (t : Bool) → eqb (next b (mate h)) h ≡ t → Else b (kev-by t b h) (owner b h ∷ [])
-  else-by true e = record {
-    rings = λ m hs n. ring-kept b (kev-by true b h) m hs (left-kept _ m (in-not-first (owner b h) m [] n));
-    lones = λ m n. ap lone-of (row-other b h s h-used (eqb-true (next b (mate h)) h e) m (in-not-first (owner b h) m [] n));
-  }
-  else-by false e = record {
-    rings = λ m hs n. ring-kept b (kev-by false b h) m hs (left-kept _ m (in-not-first (owner b h) m [] n));
-    lones = λ m n. refl;
+  ring-left : (l : ℕ) (hs : List ℕ) → RingOf b l (h ∷ mate h ∷ hs) → Along now l hs (start b h)
+  ring-left l [] r = lone-here b h s h-used (r .round .1) l (sym (r .only h (in-first h (mate h ∷ [])) .1))
+  ring-left l (x ∷ xs) r = left-ring (emptied-loops b h) l x xs r
+
+  others-stay : Else b now (owner b h ∷ [])
+  others-stay = record {
+    rings = λ m hs n. ring-kept b now m hs (left-kept (emptied-loops b h) m (in-not-first (owner b h) m [] n));
+    lones = λ m n. ap lone-of (row-other b h s h-used m (in-not-first (owner b h) m [] n));
   }
 
 pub kev-law : (b : Boundary) (h : ℕ) → Sound b → h < 384 → kev-refusal b h ≡ None → KevLaw b h
 kev-law b h s small q =
     let a = kev-accepted b h q in
-    record { ring = ring-by b h s (a .0) (a .1) (eqb (next b (mate h)) h) refl; others = else-by b h s (a .0) (a .1) (eqb (next b (mate h)) h) refl }
+    record {
+      ring = λ l hs r. subst (λ c. Along c l hs (start b h)) (sym (kev-is b h)) (ring-left b h s (a .0) (a .1) l hs r);
+      others = subst (λ c. Else b c (owner b h ∷ [])) (sym (kev-is b h)) (others-stay b h s (a .0) (a .1));
+    }
