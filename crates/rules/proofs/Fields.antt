@@ -43,6 +43,11 @@ module _ (t : List (Option Loop)) (f g l : ℕ) where
   pub inner-miss : Has t l → face-of (row t l) ≢ f → face-of (row (map (mapped (inner-loop f g)) t) l) ≡ face-of (row t l)
   inner-miss u ne = inner-face u ∙ cond-false (eqb (face-of (row t l)) f) g (face-of (row t l)) (ne-eqb (face-of (row t l)) f ne)
 
+-- a used loop by its face and its lone vertex
+pub loop-row : (r : Option Loop) (o : Option ℕ) → T (isSome r) → lone-of r ≡ o → r ≡ Some (record { face = face-of r; lone = o })
+loop-row None o u e = absurd u
+loop-row (Some x) o u e = ap (λ i. Some (record { face = x .face; lone = i })) e
+
 -- the loop l gets the lone vertex o, or none
 abbrev pub with-lone : List (Option Loop) → ℕ → Option ℕ → List (Option Loop)
 with-lone t l o = set t l (Some (record { face = face-of (row t l); lone = o }))

@@ -30,7 +30,7 @@ use Rattle.rules.proofs.Rows.{true-T, not-eqb, unless-none, row-put-other, len
 use Rattle.rules.proofs.Counts.{count-clear}
 use Rattle.rules.proofs.Fields.{one-loop-in}
 use Rattle.rules.proofs.Halves.{mate-mate, mate-apart, used-mate, joined-owner}
-use Rattle.rules.proofs.Views.{loop-rings, vertex-rings, loop-rings-by, vertex-rings-by, continues-by, next-used-by, HasHalf, Placed}
+use Rattle.rules.proofs.Views.{loop-rings, vertex-rings, loop-rings-by, vertex-rings-by, continues-by, next-used-by, HasHalf, Placed, lone-not-owner}
 use Rattle.rules.proofs.Led.{Alike, joined-alike}
 use Rattle.rules.proofs.Erase.{start-was as erased-start-was, starts-placed, past-on, past-over, Gone, halves-apart, erased, turns-left, after-x, after-y, erased-in, erased-in-use, erased-length, erased-count, erased-still, erased-start, erased-owner, erased-first, erased-second, erased-other, lone-put, emptied-is, lone-put-has-in, lone-put-has-out, lone-put-other, lone-put-face, lone-put-true, lone-put-false, lone-put-length, lone-put-count}
 
@@ -197,10 +197,10 @@ module _ (b c : Boundary) (x y : ℕ) (s : Sound b) (a : Asked b x y) (d : Left 
 
   -- no lone vertex was on either loop
   not-on-lx : (m v : ℕ) → lone b m ≡ Some v → m ≢ lx
-  not-on-lx m v e q = s .lone .lone-alone m v x e (a .x-used) (sym q)
+  not-on-lx = lone-not-owner b s x (a .x-used)
 
   not-on-ly : (m v : ℕ) → lone b m ≡ Some v → m ≢ ly
-  not-on-ly m v e q = s .lone .lone-alone m v y e y-used (sym q)
+  not-on-ly = lone-not-owner b s y y-used
 
   new-sizes : Sizes c
   new-sizes = record {

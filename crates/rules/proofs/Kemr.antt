@@ -29,10 +29,10 @@ use Rattle.rings.proofs.Round.{cycle-covers}
 use Rattle.rings.proofs.Put.{swapped-by-put}
 use Rattle.rings.proofs.Euler.{loops-split}
 use Rattle.rules.specs.Rules.{Has, Used, turn, Sizes, Named, LoneVertices, Outer, OneShell, Balanced, Sound}
-use Rattle.rules.proofs.Rows.{true-T, unless-none, free-not-has, row-put-same, row-put-other, length-put, has-put-same, has-put-other-in, has-put-cases, lone-has, none-not-some, some-same}
+use Rattle.rules.proofs.Rows.{true-T, unless-none, free-not-has, row-put-same, row-put-other, length-put, has-put-same, has-put-other-in, has-put-cases, lone-has, none-not-some, some-same, has-apart}
 use Rattle.rules.proofs.Counts.{count-put-free}
 use Rattle.rules.proofs.Halves.{mate-mate, mate-apart, used-mate, owned-hit, owned-miss}
-use Rattle.rules.proofs.Views.{loop-rings, vertex-rings, loop-rings-by, vertex-rings-by, continues-by, next-used-by, HasHalf, Placed}
+use Rattle.rules.proofs.Views.{loop-rings, vertex-rings, loop-rings-by, vertex-rings-by, continues-by, next-used-by, HasHalf, Placed, owner-not-free, lone-not-owner}
 use Rattle.rules.proofs.Runs.{Met, loop-meets, in-from-on, on-from-in}
 use Rattle.rules.proofs.Led.{Alike, owned-alike}
 use Rattle.rules.proofs.Erase.{start-was as erased-start-was, starts-placed, past-on, Gone, halves-apart, erased, turns-left, after-x, after-y, erased-in, erased-in-use, erased-length, erased-count, erased-still, erased-start, erased-owner, erased-first, erased-second, erased-other, lone-put, emptied-is, lone-put-has-in, lone-put-has-out, lone-put-other, lone-put-face, lone-put-true, lone-put-false, lone-put-length, lone-put-count}
@@ -113,10 +113,10 @@ module _ (b c : Boundary) (x y l : ℕ) (s : Sound b) (a : Asked b x y l) (d : L
   ol-used = s .named .owner-used x (a .x-used)
 
   not-l : (m : ℕ) → Has (b .loops) m → m ≢ l
-  not-l m u e = a .loop-free (subst (Has (b .loops)) e u)
+  not-l m u = has-apart (b .loops) m l u (a .loop-free)
 
-  pub fresh : (i : ℕ) → Used b i → owner b i ≢ l
-  fresh i u = not-l (owner b i) (s .named .owner-used i u)
+  fresh : (i : ℕ) → Used b i → owner b i ≢ l
+  fresh = owner-not-free b s l (a .loop-free)
 
   pub after-x-used : Used b (next b x)
   after-x-used = s .named .next-used x (a .x-used)
@@ -274,10 +274,6 @@ module _ (b c : Boundary) (x y l : ℕ) (s : Sound b) (a : Asked b x y l) (d : L
     ]
   ]
 
-  -- no lone vertex was on the loop of x
-  pub not-on-ol : (m v : ℕ) → lone b m ≡ Some v → m ≢ ol
-  not-on-ol m v e q = s .lone .lone-alone m v x e (a .x-used) (sym q)
-
   new-sizes : Sizes c
   new-sizes = record {
     shells = ap length (d .same-shells) ∙ s .sizes .shells;
@@ -405,7 +401,7 @@ module _ (b c : Boundary) (x y l : ℕ) (s : Sound b) (a : Asked b x y l) (d : L
     ];
     start-or-lone = λ v u. elim (s .lone .start-or-lone v (subst (λ t. Has t v) (d .same-vertices) u)) [
       | inl z ↦ subst (Placed c) (z .2) (starts-placed b c x y s (d .gone) at-x at-y (z .0) (z .1))
-      | inr m ↦ inr (m .0, lone-other (m .0) (not-l (m .0) (lone-has b (m .0) v (m .1))) (not-on-ol (m .0) v (m .1)) ∙ m .1)
+      | inr m ↦ inr (m .0, lone-other (m .0) (not-l (m .0) (lone-has b (m .0) v (m .1))) (lone-not-owner b s x (a .x-used) (m .0) v (m .1)) ∙ m .1)
     ];
     one-loop = λ m n v e r. one-place m n v (lone-was m v e) (lone-was n v r);
     not-both = λ m v z e u t. none-starts m v z (lone-was m v e) u (sym (start-was z u) ∙ t);
@@ -518,7 +514,7 @@ module _ (b : Boundary) (h l : ℕ) (s : Sound b) (a : Asked b h (mate h) l) (ll
   own-used = s .named .owner-used h (a .x-used)
 
   own-not-l : owner b h ≢ l
-  own-not-l e = a .loop-free (subst (Has (b .loops)) e own-used)
+  own-not-l = has-apart (b .loops) (owner b h) l own-used (a .loop-free)
 
   room : l < length (b .loops)
   room = omega (arith, s .sizes .loops)

@@ -11,10 +11,11 @@ use Rattle.boundary.specs.Refusals.{kemr-refusal}
 use Rattle.rules.specs.Rules.{Used, Sound}
 use Rattle.rules.specs.RingLaws.{leads-to, GoesRound, RingOf, Along, Else, KemrLaw}
 use Rattle.rules.proofs.Erase.{past-on}
-use Rattle.rules.proofs.Kemr.{Asked, asked, Left, fresh, was-owner, off-owner, owner-was, was-used, not-x, not-y, x-not-self, y-not-self, plain, kemr-is, is-left, lone-other}
+use Rattle.rules.proofs.Kemr.{Asked, asked, Left, was-owner, off-owner, owner-was, was-used, not-x, not-y, x-not-self, y-not-self, plain, kemr-is, is-left, lone-other}
 use Rattle.rules.proofs.RingLists.{in-first, in-rest, in-parts, in-behind, in?, none-of-two, first-or, leads-first, leads-rest, Kept, ring-kept, Parts, parts-of}
 use Rattle.rules.proofs.RingRuns.{run-list}
 use Rattle.rules.proofs.RingsLeft.{leads-without, kept-without}
+use Rattle.rules.proofs.Views.{owner-not-free}
 
 module _ (b c : Boundary) (x y l : ℕ) (s : Sound b) (a : Asked b x y l) (d : Left b c x y l) where
   -- the ring of x and y, cut just before y
@@ -63,7 +64,7 @@ module _ (b c : Boundary) (x y l : ℕ) (s : Sound b) (a : Asked b x y l) (d : L
       round = round;
       distinct = in-two .front-once .1;
       only = λ i p. let o = xs-left i p in (d .gone .still-in-use i (o .0) (o .1) (o .2), owner-xs i p);
-      whole = λ i u e. elim (in? xs i) [ yes p ↦ p | no n ↦ absurd (fresh b c x y l s a d i (was-used b c x y l s a d i u) (sym (owner-else i u n) ∙ e)) ];
+      whole = λ i u e. elim (in? xs i) [ yes p ↦ p | no n ↦ absurd (owner-not-free b s l (a .loop-free) i (was-used b c x y l s a d i u) (sym (owner-else i u n) ∙ e)) ];
     }
 
     -- the old ring
@@ -81,7 +82,7 @@ module _ (b c : Boundary) (x y l : ℕ) (s : Sound b) (a : Asked b x y l) (d : L
 
     old-whole : (i : ℕ) → Used c i → owner c i ≡ m → In ys i
     old-whole i u e = elim (in? xs i) [
-      | yes p ↦ absurd (fresh b c x y l s a d x (a .x-used) (in-two .on-m ∙ sym e ∙ owner-xs i p))
+      | yes p ↦ absurd (owner-not-free b s l (a .loop-free) x (a .x-used) (in-two .on-m ∙ sym e ∙ owner-xs i p))
       | no n ↦ elim (in-parts (x ∷ xs) (y ∷ ys) i (r .whole i (was-used b c x y l s a d i u) (sym (owner-else i u n) ∙ e))) [
         | inl p ↦ absurd (n (in-behind x i xs p (not-x b c x y l s a d i u)))
         | inr p ↦ in-behind y i ys p (not-y b c x y l s a d i u)

@@ -24,7 +24,7 @@ use Rattle.rules.specs.Rules.{Has, Used, Sizes, Named, LoneVertices, Outer, On
 use Rattle.rules.proofs.Rows.{true-T, unless-none, none-not-some, some-same, has-clear-in, has-clear-out, length-put}
 use Rattle.rules.proofs.Counts.{count-clear}
 use Rattle.rules.proofs.Halves.{mate-apart, used-mate, mate-mate}
-use Rattle.rules.proofs.Views.{loop-rings-by, vertex-rings-by, continues-by, HasHalf, Placed}
+use Rattle.rules.proofs.Views.{loop-rings-by, vertex-rings-by, continues-by, HasHalf, Placed, lone-not-owner}
 use Rattle.rules.proofs.KevHalves.{kev-edges, mate-used-too, left-in, left-out, left-start, left-owner, left-size, left-count, left-loops, only-mate, same-loop, none-on-loop, none-at-start, after-left, after-owner, after-start, left-hit, left-miss, after-not-mate}
 use Rattle.rules.proofs.Erase.{Gone, start-was, turns-left, past-on, lone-put, emptied-is, lone-put-has-in, lone-put-has-out, lone-put-other, lone-put-face, lone-put-true, lone-put-false, lone-put-length, lone-put-count}
 use Rattle.rings.specs.Rings.{Rings}
@@ -264,7 +264,7 @@ module _ (b : Boundary) (h : ℕ) (s : Sound b) (h-used : Used b h) where
         | no ne ↦ (sym (ap lone-of (row-other m ne)) ∙ a, λ q. absurd (ne q))
       ]
     ];
-    lone-still = λ m u a. ap lone-of (row-other m (λ q. s .lone .lone-alone m u h a h-used (sym q))) ∙ a;
+    lone-still = λ m u a. ap lone-of (row-other m (lone-not-owner b s h h-used m u a)) ∙ a;
     lone-then = λ e. lone-here e l refl;
   }
 

@@ -25,7 +25,7 @@ use Rattle.rules.proofs.Edges.{continues-beside, loops-beside, vertices-beside
 use Rattle.rules.proofs.Views.{Placed}
 
 -- every rule but the balance
-record Kept (b : Boundary) : Type 0 where
+record AllButBalance (b : Boundary) : Type 0 where
   sizes : Sizes b
   named : Named b
   continues : Continues b
@@ -35,8 +35,8 @@ record Kept (b : Boundary) : Type 0 where
   outer : Outer b
   one-shell : OneShell b
 
-kept : (b : Boundary) → Sound b → Kept b
-kept b s = record {
+all-but-balance : (b : Boundary) → Sound b → AllButBalance b
+all-but-balance b s = record {
   sizes = s .sizes;
   named = s .named;
   continues = s .continues;
@@ -47,7 +47,7 @@ kept b s = record {
   one-shell = s .one-shell;
 }
 
-sound : (b : Boundary) → Kept b → Balanced b → Sound b
+sound : (b : Boundary) → AllButBalance b → Balanced b → Sound b
 sound b k q = record {
   sizes = k .sizes;
   named = k .named;
@@ -64,7 +64,7 @@ sound b k q = record {
 abbrev one-of-two : Boundary → ℕ → ℕ → Boundary
 one-of-two b a c = clear-shell (merged b c a) c
 
-module _ (b : Boundary) (a c : ℕ) (k : Kept b) (ua : Has (b .shells) a) (ne : a ≢ c) where
+module _ (b : Boundary) (a c : ℕ) (k : AllButBalance b) (ua : Has (b .shells) a) (ne : a ≢ c) where
   abbrev merge : Boundary
   merge = one-of-two b a c
 
@@ -139,7 +139,7 @@ module _ (b : Boundary) (a c : ℕ) (k : Kept b) (ua : Has (b .shells) a) (ne : 
   merge-one-shell h u =
       merge-loop-shell (owner b h) (k .named .owner-used h u) ∙ ap (λ d. cond (eqb d c) a d) (k .one-shell h u) ∙ sym (merge-loop-shell (owner b (mate h)) (k .named .owner-used (mate h) (used-mate b h u)))
 
-  merge-keeps : Kept merge
+  merge-keeps : AllButBalance merge
   merge-keeps = record {
     sizes = merge-sizes;
     named = merge-named;
@@ -155,7 +155,7 @@ module _ (b : Boundary) (a c : ℕ) (k : Kept b) (ua : Has (b .shells) a) (ne : 
 abbrev taken-in : Boundary → ℕ → ℕ → Boundary
 taken-in b f g = clear-face (inner b g f) g
 
-module _ (b : Boundary) (f g : ℕ) (k : Kept b) (uf : Has (b .faces) f) (ne : f ≢ g) (same : face-shell b f ≡ face-shell b g) where
+module _ (b : Boundary) (f g : ℕ) (k : AllButBalance b) (uf : Has (b .faces) f) (ne : f ≢ g) (same : face-shell b f ≡ face-shell b g) where
   abbrev new : Boundary
   new = taken-in b f g
 
@@ -258,7 +258,7 @@ module _ (b : Boundary) (f g : ℕ) (k : Kept b) (uf : Has (b .faces) f) (ne : f
   one-shell h u =
       shell-is (owner b h) (k .named .owner-used h u) ∙ k .one-shell h u ∙ sym (shell-is (owner b (mate h)) (k .named .owner-used (mate h) (used-mate b h u)))
 
-  taken-in-keeps : Kept new
+  taken-in-keeps : AllButBalance new
   taken-in-keeps = record {
     sizes = sizes;
     named = named;
@@ -271,7 +271,7 @@ module _ (b : Boundary) (f g : ℕ) (k : Kept b) (uf : Has (b .faces) f) (ne : f
   }
 
 -- no rule but the balance speaks of the handles
-counted : (b : Boundary) (n : ℕ) → Kept b → Kept (with-handles b n)
+counted : (b : Boundary) (n : ℕ) → AllButBalance b → AllButBalance (with-handles b n)
 counted b n k = record {
   sizes = record { shells = k .sizes .shells; faces = k .sizes .faces; loops = k .sizes .loops; edges = k .sizes .edges; vertices = k .sizes .vertices };
   named = record {
@@ -306,7 +306,7 @@ module _ (b : Boundary) (f g : ℕ) (s : Sound b) (uf : Has (b .faces) f) (ug : 
 
   within-one : first ≡ second → Sound (with-handles (taken-in b f g) (one-more (b .handles)))
   within-one e =
-      sound (with-handles (taken-in b f g) (one-more (b .handles))) (counted (taken-in b f g) (one-more (b .handles)) (taken-in-keeps b f g (kept b s) uf ne e)) balance
+      sound (with-handles (taken-in b f g) (one-more (b .handles))) (counted (taken-in b f g) (one-more (b .handles)) (taken-in-keeps b f g (all-but-balance b s) uf ne e)) balance
     where
       balance : Balanced (with-handles (taken-in b f g) (one-more (b .handles)))
       balance =
@@ -314,7 +314,7 @@ module _ (b : Boundary) (f g : ℕ) (s : Sound b) (uf : Has (b .faces) f) (ug : 
 
   -- the shells first, the faces then
   of-two : first ≢ second → Sound (taken-in (one-of-two b first second) f g)
-  of-two other = sound (taken-in mid f g) (taken-in-keeps mid f g (merge-keeps b first second (kept b s) (s .named .shell-used f uf) other) uf′ ne together) balance
+  of-two other = sound (taken-in mid f g) (taken-in-keeps mid f g (merge-keeps b first second (all-but-balance b s) (s .named .shell-used f uf) other) uf′ ne together) balance
     where
       mid : Boundary
       mid = one-of-two b first second

@@ -26,10 +26,10 @@ use Rattle.rings.proofs.Facts.{walk-label, before, injective}
 use Rattle.rings.proofs.Walks.{on-run?}
 use Rattle.rings.proofs.Euler.{loops-stay, vertices-stay}
 use Rattle.rules.specs.Rules.{Has, Used, turn, Sizes, Named, LoneVertices, Outer, OneShell, Balanced, Sound}
-use Rattle.rules.proofs.Rows.{true-T, not-eqb, unless-none, free-not-has, row-has, row-put-same, row-put-other, length-put, lone-has, none-not-some, some-same}
+use Rattle.rules.proofs.Rows.{true-T, not-eqb, unless-none, free-not-has, row-has, row-put-same, row-put-other, length-put, lone-has, none-not-some, some-same, has-apart}
 use Rattle.rules.proofs.Counts.{count-put-free}
 use Rattle.rules.proofs.Halves.{mate-of-even, mate-of-odd, new-edge, new-even, put-even, put-odd, half-put-other, put-used-even, put-used-odd, put-used-in, put-used-cases, owned-hit, owned-miss, used-mate}
-use Rattle.rules.proofs.Views.{paired, loop-rings, vertex-rings, loop-rings-by, vertex-rings-by, continues-by, next-used-by, HasHalf}
+use Rattle.rules.proofs.Views.{paired, loop-rings, vertex-rings, loop-rings-by, vertex-rings-by, continues-by, next-used-by, HasHalf, owner-not-free}
 use Rattle.rules.proofs.Runs.{Met, loop-meets, in-from-on, on-from-in, last-step}
 use Rattle.rules.proofs.Led.{Alike, owned-alike, led-twice, twice-has-in, twice-has-out, twice-length, twice-count, twice-start, twice-owner, twice-first, twice-second, twice-other}
 
@@ -155,14 +155,11 @@ module _ (b c : Boundary) (h j k x y f l : ℕ) (s : Sound b) (a : Asked b h j k
   sooner : (n : ℕ) × (met .steps ≡ suc n) × First (next b) h q n
   sooner = last-step old-rings h j q (met .steps) (a .h-used) (before-j .1) (before-j .2) (a .apart) (met .first)
 
-  pub fresh : (i : ℕ) → Used b i → owner b i ≢ l
-  fresh i u e = a .loop-free (subst (Has (b .loops)) e (s .named .owner-used i u))
-
   loop-labels : LoopLabels (next b) (Used b) (owner b) (owner c) p q x y (sooner .0) l
   loop-labels = record {
     together = sym (old-rings .label p (before-h .1)) ∙ ap (owner b) (before-h .2) ∙ a .together ∙ ap (owner b) (sym (before-j .2)) ∙ old-rings .label q (before-j .1);
     to-q = subst (λ z. First (next b) z q (sooner .0)) (sym (before-h .2)) (sooner .2);
-    fresh = fresh;
+    fresh = owner-not-free b s l (a .loop-free);
     x-label = ap (λ e. e .owner) (d .x-half) ∙ ap (owner b) (sym (before-h .2)) ∙ old-rings .label p (before-h .1);
     y-label = ap (λ e. e .owner) (d .y-half);
     run-label = λ i u o. on-owner i u (subst (λ m. OnRun (next b) h m i) (sym (sooner .1)) (subst (λ z. OnRun (next b) z (suc (sooner .0)) i) (before-h .2) o));
@@ -203,10 +200,10 @@ module _ (b c : Boundary) (h j k x y f l : ℕ) (s : Sound b) (a : Asked b h j k
 
   -- loops and faces: the old ones as they were, and the new ones
   not-l : (i : ℕ) → Has (b .loops) i → i ≢ l
-  not-l i u e = a .loop-free (subst (Has (b .loops)) e u)
+  not-l i u = has-apart (b .loops) i l u (a .loop-free)
 
   not-f : (i : ℕ) → Has (b .faces) i → i ≢ f
-  not-f i u e = a .face-free (subst (Has (b .faces)) e u)
+  not-f i u = has-apart (b .faces) i f u (a .face-free)
 
   loop-in : (i : ℕ) → Has (b .loops) i → Has (c .loops) i
   loop-in i u = subst (λ r. T (isSome r)) (sym (d .old-loop i (not-l i u))) u

@@ -12,9 +12,10 @@ use Rattle.boundary.specs.Refusals.{mef-refusal}
 use Rattle.rules.specs.Rules.{Used, Sound}
 use Rattle.rules.specs.RingLaws.{leads-to, RingOf, Else, MefLaw}
 use Rattle.rules.proofs.Halves.{used-mate}
-use Rattle.rules.proofs.Mef.{Asked, asked, Made, has-made, on?, on-owner, off-owner, was-owner, fresh, lone-same}
+use Rattle.rules.proofs.Mef.{Asked, asked, Made, has-made, on?, on-owner, off-owner, was-owner, lone-same}
 use Rattle.rules.proofs.RingLists.{in-none, in-first, in-rest, in-one, in-left, in-right, in-parts, in?, none-of-two, once-append, leads-append, leads-carried, Kept, ring-kept, Parts, parts-of}
 use Rattle.rules.proofs.RingRuns.{run-list}
+use Rattle.rules.proofs.Views.{owner-not-free}
 
 module _ (b c : Boundary) (h j k x y f l : ℕ) (s : Sound b) (a : Asked b h j k f l) (d : Made b c h j x y f l) where
   y-new : Used b y → ⊥
@@ -33,7 +34,7 @@ module _ (b c : Boundary) (h j k x y f l : ℕ) (s : Sound b) (a : Asked b h j k
   owner-y = ap (λ e. e .owner) (d .y-half)
 
   not-new : (i : ℕ) → Used b i → owner b i ≢ l
-  not-new = fresh b c h j k x y f l s a d
+  not-new = owner-not-free b s l (a .loop-free)
 
   -- the ring of h and j, cut just before j
   module _ (m : ℕ) (xs ys : List ℕ) (r : RingOf b m (h ∷ xs ++ j ∷ ys)) where

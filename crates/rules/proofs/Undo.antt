@@ -15,7 +15,6 @@ use Rattle.std.proofs.shelf.Tests.{eq-eqb, ne-eqb, cond-true, cond-false}
 use Rattle.boundary.specs.declared.Point.{Point}
 use Rattle.boundary.specs.declared.HalfEdge.{HalfEdge}
 use Rattle.boundary.specs.declared.Edge.{Edge}
-use Rattle.boundary.specs.declared.Loop.{Loop}
 use Rattle.boundary.specs.declared.Boundary.{Boundary}
 use Rattle.boundary.specs.Tables.{row, side, half-in, start, next, mate, lone, lone-of, face-of, shell-of, outer-of, in-shell, is-half-place}
 use Rattle.boundary.specs.Changes.{clear-shell, clear-face, clear-loop, clear-vertex, clear-edge, emptied, led, led-half, led-edge, led-in}
@@ -29,7 +28,7 @@ use Rattle.rules.proofs.Mev.{Free, mev-free, mev-at-half, mev-at-lone}
 use Rattle.rules.proofs.MevBefore.{before-edges, next-odd as before-next-odd, new-edge-is as before-new-edge}
 use Rattle.rules.proofs.MevLone.{ring-edges, bare-loops, next-odd as lone-next-odd, new-edge-is as lone-new-edge}
 use Rattle.rules.proofs.Mvfs.{Fresh, fresh}
-use Rattle.rules.proofs.Fields.{lone-row}
+use Rattle.rules.proofs.Fields.{lone-row, loop-row}
 
 -- a table that differs from t at k alone is t again once its row k is
 pub put-back : {X : Type 0} (t z : List (Option X)) (k : ℕ) (r : Option X) → length z ≡ length t → row t k ≡ r → ((i : ℕ) → i ≢ k → row z i ≡ row t i) → set z k r ≡ t
@@ -150,10 +149,6 @@ module _ (b : Boundary) (h k v : ℕ) (p : Point) (s : Sound b) (h-used : Used b
       ∙ (λ i. record { shells = b .shells; faces = b .faces; loops = b .loops; edges = es i; vertices = vs i; handles = b .handles })
 
 -- at a lone vertex
-loop-is : (r : Option Loop) (w : ℕ) → lone-of r ≡ Some w → r ≡ Some (record { face = face-of r; lone = Some w })
-loop-is None w e = absurd (subst (λ o. T (isSome o)) (sym e) tt)
-loop-is (Some x) w e = ap (λ o. Some (record { face = x .face; lone = o })) e
-
 module _ (b : Boundary) (l k v w : ℕ) (p : Point) (s : Sound b) (w-lone : lone b l ≡ Some w) (k-small : k < 192) (rows : Free b k v) where
   abbrev d : Boundary
   d = record { shells = b .shells; faces = b .faces; loops = bare-loops b l; edges = ring-edges b l k w v; vertices = set (b .vertices) v (Some p); handles = b .handles }
@@ -170,7 +165,7 @@ module _ (b : Boundary) (l k v w : ℕ) (p : Point) (s : Sound b) (w-lone : lone
 
   loops-back : set (bare-loops b l) l (Some (record { face = face-of (row (bare-loops b l) l); lone = Some w })) ≡ b .loops
   loops-back =
-      put-back (b .loops) (bare-loops b l) l _ (length-put (b .loops) l _) (loop-is (row (b .loops) l) w w-lone ∙ ap (λ f. Some (record { face = f; lone = Some w })) (sym (ap face-of (lone-row (b .loops) l None (lone-has b l w w-lone))))) (λ i ne. row-put-other (b .loops) l i _ ne)
+      put-back (b .loops) (bare-loops b l) l _ (length-put (b .loops) l _) (loop-row (row (b .loops) l) (Some w) (lone-has b l w w-lone) w-lone ∙ ap (λ f. Some (record { face = f; lone = Some w })) (sym (ap face-of (lone-row (b .loops) l None (lone-has b l w w-lone))))) (λ i ne. row-put-other (b .loops) l i _ ne)
 
   lone-undone : kev d (2 * k) ≡ b
   lone-undone =
@@ -199,8 +194,8 @@ module _ (b : Boundary) (a f l v : ℕ) (p : Point) (s : Sound b) (open-rows : F
   face-row : row (made .faces) f ≡ Some (record { shell = a; outer = l })
   face-row = row-put-same (b .faces) f _ (open-rows .face-below)
 
-  loop-row : row (made .loops) l ≡ Some (record { face = f; lone = Some v })
-  loop-row = row-put-same (b .loops) l _ (open-rows .loop-below)
+  made-loop : row (made .loops) l ≡ Some (record { face = f; lone = Some v })
+  made-loop = row-put-same (b .loops) l _ (open-rows .loop-below)
 
   -- no other face lies in the new shell
   face-is : face-in made a ≡ f
@@ -218,7 +213,7 @@ module _ (b : Boundary) (a f l v : ℕ) (p : Point) (s : Sound b) (open-rows : F
   outer-is = ap (λ i. outer-of (row (made .faces) i)) face-is ∙ ap outer-of face-row
 
   vertex-is : valueOr (lone made (outer-of (row (made .faces) (face-in made a)))) 0 ≡ v
-  vertex-is = ap (λ i. valueOr (lone made i) 0) outer-is ∙ ap (λ r. valueOr (lone-of r) 0) loop-row
+  vertex-is = ap (λ i. valueOr (lone made i) 0) outer-is ∙ ap (λ r. valueOr (lone-of r) 0) made-loop
 
   shell-undone : kvfs (mvfs b a f l v p) a ≡ b
   shell-undone =

@@ -6,16 +6,16 @@ use mathlib.Core.List.{List}
 use Prim.Native.Nat.{ℕ, _+_, _*_, _-_, _/_, _<_}
 use native.Mathlib.Decide.{ℕ-discrete}
 use native.Mathlib.Omega.{arith}
-use lib.Dec.{T, eqb}
+use lib.Dec.{eqb}
 use lib.ListN.{length, set}
-use Rattle.std.specs.Options.{isSome, valueOr}
+use Rattle.std.specs.Options.{valueOr}
 use Rattle.std.specs.declared.option.Option.{Option}
 use Rattle.std.specs.declared.option.Option.the-variants.{None, Some}
 use Rattle.std.proofs.shelf.Tests.{eq-eqb, ne-eqb, cond-true, cond-false}
 use Rattle.boundary.specs.declared.Edge.{Edge}
 use Rattle.boundary.specs.declared.Loop.{Loop}
 use Rattle.boundary.specs.declared.Boundary.{Boundary}
-use Rattle.boundary.specs.Tables.{row, side, half-in, start, next, owner, lone, lone-of, face-of, loop-face, is-half-place, place-loop, place-vertex}
+use Rattle.boundary.specs.Tables.{row, side, half-in, start, next, owner, lone, loop-face, is-half-place, place-loop, place-vertex}
 use Rattle.boundary.specs.Changes.{joined-in}
 use Rattle.boundary.specs.Operators.{half-edge, edge, kemr, mekr}
 use Rattle.boundary.specs.Refusals.{kemr-refusal}
@@ -24,13 +24,14 @@ use Rattle.rules.specs.Rules.{Has, Used, Sound}
 use Rattle.rules.specs.RingLaws.{run-place}
 use Rattle.rules.proofs.Rows.{has-row, has-below, no-row, row-put-same, row-put-other, length-put, none-not-some, some-same}
 use Rattle.rules.proofs.Halves.{half-of-even, half-even, half-odd, mate-of-even, joined-hit, joined-miss}
-use Rattle.rules.proofs.Views.{loop-rings, half-below}
+use Rattle.rules.proofs.Views.{loop-rings, half-below, owner-not-free, lone-not-owner}
 use Rattle.rules.proofs.Led.{Alike, joined-alike, twice-has-in, twice-has-out, twice-length, twice-start, twice-owner, twice-first, twice-second, twice-other}
 use Rattle.rules.proofs.Erase.{past-on, halves-apart, after-x, after-y}
 use Rattle.rules.proofs.Undo.{put-back, row-by-halves, same-half}
 use Rattle.rules.proofs.Accepted.{half-place, lone-place}
-use Rattle.rules.proofs.Kemr.{Asked, asked, Left, fresh, x-not-self, y-not-self, after-x-used, after-y-owner, after-x-on, after-y-off, on-owner, off-owner, was-owner, owner-was, not-on-ol, plain, kemr-is, is-left}
+use Rattle.rules.proofs.Kemr.{Asked, asked, Left, x-not-self, y-not-self, after-x-used, after-y-owner, after-x-on, after-y-off, on-owner, off-owner, was-owner, owner-was, plain, kemr-is, is-left}
 use Rattle.rules.proofs.Mekr.{target, table, linked, linked-is}
+use Rattle.rules.proofs.Fields.{loop-row}
 
 -- the place a of a run that begins with n and ends before z: the half-edge n, or the loop l where the run is empty
 data Place (n z a l : ℕ) : Type 0 where
@@ -71,17 +72,13 @@ target-miss : (m : ℕ) {n z a l : ℕ} → Place n z a l → (n ≢ z → m ≢
 target-miss m {n} {z} {a} {l} (half ne e t) off s = off ne (sym (some-same (ap (λ c. target c a) t) s) ∙ e)
 target-miss m {n} {z} {a} {l} (empty q e t) off s = none-not-some (ap (λ c. target c a) t) s
 
--- a used edge, by its halves, and a used loop that has no lone vertex
+-- a used edge, by its halves
 edge-row : (es : List (Option Edge)) (k : ℕ) → Has es k → row es k ≡ Some (edge (half-in es (2 * k)) (half-in es (2 * k + 1)))
 edge-row es k u =
     let e = has-row es k u in
     let p = half-even es k ∙ ap (λ r. side r true) (e .1) in
     let q = half-odd es k ∙ ap (λ r. side r false) (e .1) in
     e .1 ∙ sym (λ i. Some (edge (p i) (q i)))
-
-bare-row : (r : Option Loop) → T (isSome r) → lone-of r ≡ None → r ≡ Some (record { face = face-of r; lone = None })
-bare-row None u e = absurd u
-bare-row (Some x) u e = ap (λ o. Some (record { face = x .face; lone = o })) e
 
 -- the join with what it reads of the boundary handed to it
 linked-same : (d : Boundary) (p q : Option ℕ) (k : ℕ) {l l′ m m′ v v′ w w′ : ℕ} → l ≡ l′ → m ≡ m′ → v ≡ v′ → w ≡ w′ → linked d p q l m v w k ≡ linked d p q l′ m′ v′ w′ k
@@ -144,7 +141,7 @@ module _ (b d : Boundary) (k l a c : ℕ) (s : Sound b) (o : Asked b (2 * k) (2 
     owner-back : half-in three i .owner ≡ owner b i
     owner-back = twice-owner (d .edges) one p x q y alike i ∙ elim (owner-was b d x y l s o w i used-d) [
       | inl r ↦ joined-hit (d .edges) l lx i used-d (r .1) ∙ sym (was-owner b d x y l s o w i (r .0))
-      | inr r ↦ joined-miss (d .edges) l lx i used-d (λ e. fresh b d x y l s o w i u (sym (r .1) ∙ e)) ∙ r .1
+      | inr r ↦ joined-miss (d .edges) l lx i used-d (λ e. owner-not-free b s l (o .loop-free) i u (sym (r .1) ∙ e)) ∙ r .1
     ]
 
     -- what follows i follows neither half of the edge
@@ -209,10 +206,10 @@ module _ (b d : Boundary) (k l a c : ℕ) (s : Sound b) (o : Asked b (2 * k) (2 
 
   no-lone : (r : Option ℕ) → lone b lx ≡ r → r ≡ None
   no-lone None e = refl
-  no-lone (Some v) e = absurd (not-on-ol b d x y l s o w lx v e refl)
+  no-lone (Some v) e = absurd (lone-not-owner b s x (o .x-used) lx v e refl)
 
   bare-is : Some bare ≡ row (b .loops) lx
-  bare-is = ap (λ f. Some (record { face = f; lone = None })) (w .old-loop-face lx (fresh b d x y l s o w x (o .x-used))) ∙ sym (bare-row (row (b .loops) lx) loop-used (no-lone (lone b lx) refl))
+  bare-is = ap (λ f. Some (record { face = f; lone = None })) (w .old-loop-face lx (owner-not-free b s l (o .loop-free) x (o .x-used))) ∙ sym (loop-row (row (b .loops) lx) None loop-used (no-lone (lone b lx) refl))
 
   loop-room : lx < length (d .loops)
   loop-room = subst (λ n. lx < n) (sym (w .loop-length)) (has-below (b .loops) lx loop-used)

@@ -21,9 +21,10 @@ use Rattle.rules.specs.Rules.{Has, Used, Sound}
 use Rattle.rules.proofs.Rows.{no-row, some-same}
 use Rattle.rules.proofs.Halves.{half-of-even, half-of-odd, mate-of-odd, new-even, new-odd, joined-hit, joined-miss}
 use Rattle.rules.proofs.Erase.{past-on}
-use Rattle.rules.proofs.Mef.{Asked, asked, Made, has-made, on?, on-owner, off-owner, was-owner, fresh}
+use Rattle.rules.proofs.Mef.{Asked, asked, Made, has-made, on?, on-owner, off-owner, was-owner}
 use Rattle.rules.proofs.Undo.{put-back, put-clear, row-by-halves, same-half}
 use Rattle.rules.proofs.Led.{Alike, joined-alike, led-twice, twice-has-in, twice-has-out, twice-length, twice-start, twice-owner, twice-first, twice-second, twice-other}
+use Rattle.rules.proofs.Views.{owner-not-free}
 
 -- the operator with what it reads of the boundary handed to it
 abbrev kef-parts : Bool → Boundary → ℕ → ℕ → ℕ → ℕ → ℕ → ℕ → ℕ → ℕ → ℕ → Boundary
@@ -72,7 +73,7 @@ module _ (b c : Boundary) (h j k f l : ℕ) (s : Sound b) (a : Asked b h j k f l
         joined-hit (c .edges) l (owner b h) i (d .still-in-use i u) (on-owner b c h j k y x f l s a d i u o) ∙ sym (was-owner b c h j k y x f l s a d i o)
     | no n ↦
         let same = off-owner b c h j k y x f l s a d i u n in
-        joined-miss (c .edges) l (owner b h) i (d .still-in-use i u) (λ e. fresh b c h j k y x f l s a d i u (sym same ∙ e)) ∙ same
+        joined-miss (c .edges) l (owner b h) i (d .still-in-use i u) (λ e. owner-not-free b s l (a .loop-free) i u (sym same ∙ e)) ∙ same
   ]
 
   next-back : (i : ℕ) → Used b i → half-in three i .next ≡ next b i

@@ -6,10 +6,11 @@ use Rattle.boundary.specs.Tables.{start, next, owner, mate, lone}
 use Rattle.rings.specs.Rings.{Rings}
 use Rattle.rings.specs.Euler.{Paired}
 use Rattle.rings.proofs.Facts.{injective}
-use Rattle.rules.specs.Rules.{Used, turn, Continues, LoopRings, VertexRings, Sound}
+use Rattle.rules.specs.Rules.{Used, turn, Continues, LoopRings, VertexRings, Sound, Has}
 use Rattle.rules.proofs.Halves.{mate-mate, used-mate, used-small}
-use mathlib.Core.Logic.{_⊎_}
+use mathlib.Core.Logic.{_⊎_, _≢_}
 use Rattle.std.specs.declared.option.Option.the-variants.{Some}
+use Rattle.rules.proofs.Rows.{has-apart}
 
 -- the loop l has a half-edge, and the vertex v is a start, or lone
 abbrev pub HasHalf : Boundary → ℕ → Type 0
@@ -33,6 +34,13 @@ vertex-rings b s = record {
 
 pub half-below : (b : Boundary) → Sound b → (h : ℕ) → Used b h → h < 384
 half-below b s = used-small b (s .sizes .edges)
+
+-- no half-edge lies on a loop that is not used, or that has a lone vertex
+pub owner-not-free : (b : Boundary) → Sound b → (l : ℕ) → (Has (b .loops) l → ⊥) → (h : ℕ) → Used b h → owner b h ≢ l
+owner-not-free b s l free h u = has-apart (b .loops) (owner b h) l (s .named .owner-used h u) free
+
+pub lone-not-owner : (b : Boundary) → Sound b → (h : ℕ) → Used b h → (l v : ℕ) → lone b l ≡ Some v → l ≢ owner b h
+lone-not-owner b s h u l v e q = s .lone .lone-alone l v h e u (sym q)
 
 -- back: the rules that such rings give
 pub next-used-by : (b : Boundary) → Rings (next b) (Used b) (owner b) → (h : ℕ) → Used b h → Used b (next b h)
