@@ -10,7 +10,7 @@ use Rattle.rings.proofs.Facts.{before, injective}
 use Rattle.rings.proofs.Round.{comes-round, round, within-bound}
 use Rattle.rules.specs.Rules.{Used, Sound}
 use Rattle.rules.specs.Consequences.{OnceRound, InFace, Consequences}
-use Rattle.rules.proofs.Views.{loop-rings, vertex-rings, half-below}
+use Rattle.rules.proofs.RulesAsRings.{loop-rings, vertex-rings, half-below}
 
 -- once round, in any rings of used half-edges
 once-round : (f : ℕ → ℕ) (b : Boundary) (lab : ℕ → ℕ) → Rings f (Used b) lab → ((k : ℕ) → Used b k → k < 384) → (h : ℕ) → Used b h → OnceRound f b lab h

@@ -75,9 +75,6 @@ other-edge h x n m e = elim (same-edge h x e) [ inl p ↦ n p | inr q ↦ m q ]
 pub other-halves : (h x : ℕ) → h / 2 ≢ x / 2 → (h ≢ x) × (h ≢ mate x)
 other-halves h x ne = (λ e. ne (ap (λ i. i / 2) e), λ e. ne (ap (λ i. i / 2) e ∙ mate-half x))
 
-pub mate-same : (h k : ℕ) → mate h ≡ mate k → h ≡ k
-mate-same h k e = sym (mate-mate h) ∙ ap mate e ∙ mate-mate k
-
 pub used-mate : (b : Boundary) (h : ℕ) → Used b h → Used b (mate h)
 used-mate b h u = subst (Has (b .edges)) (sym (mate-half h)) u
 

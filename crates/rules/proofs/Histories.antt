@@ -20,7 +20,7 @@ use Rattle.rules.specs.Rules.{Sound}
 use Rattle.rules.specs.Histories.{after-all, handles-of, new-handles, handles-made, unless-refused, StaysSound}
 use Rattle.rules.proofs.Accepted.{accepted, below-named, place-named}
 use Rattle.rules.proofs.Counts.{one-more-is}
-use Rattle.rules.proofs.Nothing.{empty-sound}
+use Rattle.rules.proofs.EmptyBoundary.{empty-sound}
 use Rattle.rules.proofs.Move.{move-keeps}
 use Rattle.rules.proofs.Mvfs.{mvfs-keeps}
 use Rattle.rules.proofs.Kvfs.{kvfs-keeps}

@@ -30,9 +30,9 @@ use Rattle.rules.proofs.Rows.{true-T, not-eqb, unless-none, row-put-other, len
 use Rattle.rules.proofs.Counts.{count-clear}
 use Rattle.rules.proofs.Fields.{one-loop-in}
 use Rattle.rules.proofs.Halves.{mate-mate, mate-apart, used-mate, joined-owner}
-use Rattle.rules.proofs.Views.{loop-rings, vertex-rings, loop-rings-by, vertex-rings-by, continues-by, next-used-by, HasHalf, Placed, lone-not-owner}
-use Rattle.rules.proofs.Led.{Alike, joined-alike}
-use Rattle.rules.proofs.Erase.{start-was as erased-start-was, starts-placed, past-on, past-over, Gone, halves-apart, erased, turns-left, after-x, after-y, erased-in, erased-in-use, erased-length, erased-count, erased-still, erased-start, erased-owner, erased-first, erased-second, erased-other, lone-put, emptied-is, lone-put-has-in, lone-put-has-out, lone-put-other, lone-put-face, lone-put-true, lone-put-false, lone-put-length, lone-put-count}
+use Rattle.rules.proofs.RulesAsRings.{loop-rings, vertex-rings, loop-rings-by, vertex-rings-by, continues-by, HasHalf, Placed, lone-not-owner}
+use Rattle.rules.proofs.LedEdges.{Alike, joined-alike}
+use Rattle.rules.proofs.ErasedEdge.{start-was as erased-start-was, starts-placed, past-on, past-over, Gone, halves-apart, erased, turns-left, after-x, after-y, erased-in, erased-in-use, erased-length, erased-count, erased-still, erased-start, erased-owner, erased-first, erased-second, erased-other, lone-put, emptied-is, lone-put-has-in, lone-put-has-out, lone-put-other, lone-put-face, lone-put-true, lone-put-false, lone-put-length, lone-put-count}
 
 -- what an accepted edit says of the half-edge x and its mate y
 pub record Asked (b : Boundary) (x y : ℕ) : Type 0 where
@@ -217,7 +217,7 @@ module _ (b c : Boundary) (x y : ℕ) (s : Sound b) (a : Asked b x y) (d : Left 
   new-named : Named c
   new-named = record {
     start-used = λ i u. vertex-in (start c i) (subst (Has (b .vertices)) (sym (start-was i u)) (s .named .start-used i (was-used i u)));
-    next-used = next-used-by c new-rings;
+    next-used = new-rings .closed;
     owner-used = λ i u. elim (owner-was i u) [
       | inl o ↦ subst (Has (c .loops)) (sym (o .1)) (d .loop-in ly ly-used ly-not-lx)
       | inr o ↦ subst (Has (c .loops)) (sym (o .1)) (d .loop-in (owner b i) (s .named .owner-used i (was-used i u)) (o .0))

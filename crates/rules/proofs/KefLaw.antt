@@ -12,7 +12,7 @@ use Rattle.rules.specs.Rules.{Used, Sound}
 use Rattle.rules.specs.RingLaws.{leads-to, GoesRound, RingOf, Along, Else, KefLaw}
 use Rattle.rules.proofs.Kef.{Asked, asked, Left, was-used, not-x, not-y, stays, owner-was, owner-lx, owner-other, plain, kef-is, is-left}
 use Rattle.rules.proofs.RingLists.{in-first, in-rest, in-left, in-right, in-parts, in-behind, none-of-two, once-append, first-or, leads-append, leads-rest, Kept, ring-kept}
-use Rattle.rules.proofs.RingsLeft.{leads-without, past-first, kept-without}
+use Rattle.rules.proofs.ErasedRings.{leads-without, past-first, kept-without}
 
 module _ (b c : Boundary) (x y : ℕ) (s : Sound b) (a : Asked b x y) (d : Left b c x y) where
   module _ (l m : ℕ) (xs ys : List ℕ) (rx : RingOf b l (x ∷ xs)) (ry : RingOf b m (y ∷ ys)) where

@@ -32,10 +32,10 @@ use Rattle.rules.specs.Rules.{Has, Used, turn, Sizes, Named, LoneVertices, Out
 use Rattle.rules.proofs.Rows.{true-T, unless-none, free-not-has, row-put-same, row-put-other, length-put, has-put-same, has-put-other-in, has-put-cases, lone-has, none-not-some, some-same, has-apart}
 use Rattle.rules.proofs.Counts.{count-put-free}
 use Rattle.rules.proofs.Halves.{mate-mate, mate-apart, used-mate, owned-hit, owned-miss}
-use Rattle.rules.proofs.Views.{loop-rings, vertex-rings, loop-rings-by, vertex-rings-by, continues-by, next-used-by, HasHalf, Placed, owner-not-free, lone-not-owner}
+use Rattle.rules.proofs.RulesAsRings.{loop-rings, vertex-rings, loop-rings-by, vertex-rings-by, continues-by, HasHalf, Placed, owner-not-free, lone-not-owner}
 use Rattle.rules.proofs.Runs.{Met, loop-meets, in-from-on, on-from-in}
-use Rattle.rules.proofs.Led.{Alike, owned-alike}
-use Rattle.rules.proofs.Erase.{start-was as erased-start-was, starts-placed, past-on, Gone, halves-apart, erased, turns-left, after-x, after-y, erased-in, erased-in-use, erased-length, erased-count, erased-still, erased-start, erased-owner, erased-first, erased-second, erased-other, lone-put, emptied-is, lone-put-has-in, lone-put-has-out, lone-put-other, lone-put-face, lone-put-true, lone-put-false, lone-put-length, lone-put-count}
+use Rattle.rules.proofs.LedEdges.{Alike, owned-alike}
+use Rattle.rules.proofs.ErasedEdge.{start-was as erased-start-was, starts-placed, past-on, Gone, halves-apart, erased, turns-left, after-x, after-y, erased-in, erased-in-use, erased-length, erased-count, erased-still, erased-start, erased-owner, erased-first, erased-second, erased-other, lone-put, emptied-is, lone-put-has-in, lone-put-has-out, lone-put-other, lone-put-face, lone-put-true, lone-put-false, lone-put-length, lone-put-count}
 
 -- what an accepted edit says of the half-edge x and its mate y
 pub record Asked (b : Boundary) (x y l : ℕ) : Type 0 where
@@ -103,7 +103,7 @@ module _ (b c : Boundary) (x y l : ℕ) (s : Sound b) (a : Asked b x y l) (d : L
   x-not-y : x ≢ y
   x-not-y = halves-apart b c x y s (d .gone)
 
-  pub old-rings : Rings (next b) (Used b) (owner b)
+  old-rings : Rings (next b) (Used b) (owner b)
   old-rings = loop-rings b s
 
   old-turns : Rings (turn b) (Used b) (start b)
@@ -306,7 +306,7 @@ module _ (b c : Boundary) (x y l : ℕ) (s : Sound b) (a : Asked b x y l) (d : L
   new-named : Named c
   new-named = record {
     start-used = λ i u. vertex-in (start c i) (subst (Has (b .vertices)) (sym (start-was i u)) (s .named .start-used i (was-used i u)));
-    next-used = next-used-by c new-rings;
+    next-used = new-rings .closed;
     owner-used = λ i u. elim (owner-was i u) [
       | inl o ↦ subst (Has (c .loops)) (sym (o .1)) (d .loop-l)
       | inr o ↦ subst (Has (c .loops)) (sym (o .1)) (d .loop-in (owner b i) (s .named .owner-used i (was-used i u)))

@@ -10,12 +10,12 @@ use Rattle.boundary.specs.Tables.{start, next, owner, mate, lone, run}
 use Rattle.boundary.specs.Refusals.{kemr-refusal}
 use Rattle.rules.specs.Rules.{Used, Sound}
 use Rattle.rules.specs.RingLaws.{leads-to, GoesRound, RingOf, Along, Else, KemrLaw}
-use Rattle.rules.proofs.Erase.{past-on}
+use Rattle.rules.proofs.ErasedEdge.{past-on}
 use Rattle.rules.proofs.Kemr.{Asked, asked, Left, was-owner, off-owner, owner-was, was-used, not-x, not-y, x-not-self, y-not-self, plain, kemr-is, is-left, lone-other}
 use Rattle.rules.proofs.RingLists.{in-first, in-rest, in-parts, in-behind, in?, none-of-two, first-or, leads-first, leads-rest, Kept, ring-kept, Parts, parts-of}
 use Rattle.rules.proofs.RingRuns.{run-list}
-use Rattle.rules.proofs.RingsLeft.{leads-without, kept-without}
-use Rattle.rules.proofs.Views.{owner-not-free}
+use Rattle.rules.proofs.ErasedRings.{leads-without, kept-without}
+use Rattle.rules.proofs.RulesAsRings.{owner-not-free}
 
 module _ (b c : Boundary) (x y l : ℕ) (s : Sound b) (a : Asked b x y l) (d : Left b c x y l) where
   -- the ring of x and y, cut just before y

@@ -24,9 +24,9 @@ use Rattle.rules.specs.Rules.{Has, Used, Sizes, Named, LoneVertices, Outer, On
 use Rattle.rules.proofs.Rows.{true-T, unless-none, none-not-some, some-same, has-clear-in, has-clear-out, length-put}
 use Rattle.rules.proofs.Counts.{count-clear}
 use Rattle.rules.proofs.Halves.{mate-apart, used-mate, mate-mate}
-use Rattle.rules.proofs.Views.{loop-rings-by, vertex-rings-by, continues-by, HasHalf, Placed, lone-not-owner}
+use Rattle.rules.proofs.RulesAsRings.{loop-rings-by, vertex-rings-by, continues-by, HasHalf, Placed, lone-not-owner}
 use Rattle.rules.proofs.KevHalves.{kev-edges, mate-used-too, left-in, left-out, left-start, left-owner, left-size, left-count, left-loops, only-mate, same-loop, none-on-loop, none-at-start, after-left, after-owner, after-start, left-hit, left-miss, after-not-mate}
-use Rattle.rules.proofs.Erase.{Gone, start-was, turns-left, past-on, lone-put, emptied-is, lone-put-has-in, lone-put-has-out, lone-put-other, lone-put-face, lone-put-true, lone-put-false, lone-put-length, lone-put-count}
+use Rattle.rules.proofs.ErasedEdge.{Gone, start-was, turns-left, past-on, lone-put, emptied-is, lone-put-has-in, lone-put-has-out, lone-put-other, lone-put-face, lone-put-true, lone-put-false, lone-put-length, lone-put-count}
 use Rattle.rings.specs.Rings.{Rings}
 
 abbrev pub shrunk : Boundary → List (Option Loop) → ℕ → Boundary

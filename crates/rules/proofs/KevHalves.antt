@@ -18,7 +18,7 @@ use Rattle.rules.specs.Rules.{Has, Used, turn, Sound}
 use Rattle.rules.proofs.Rows.{has-map-in, has-map-out, length-put, length-mapped}
 use Rattle.rules.proofs.Counts.{count-clear, count-map}
 use Rattle.rules.proofs.Halves.{mate-mate, mate-apart, used-mate, other-edge, half-put-other, clear-mates-in, clear-mates-out, led-start, led-owner, led-hit, led-miss}
-use Rattle.rules.proofs.Views.{loop-rings, vertex-rings}
+use Rattle.rules.proofs.RulesAsRings.{loop-rings, vertex-rings}
 use Rattle.rings.proofs.Facts.{alone-in}
 
 -- the edges that are left

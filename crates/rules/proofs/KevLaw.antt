@@ -15,7 +15,7 @@ use Rattle.rules.specs.RingLaws.{RingOf, Along, Else, KevLaw}
 use Rattle.rules.proofs.KevHalves.{left-in, left-out, left-owner, left-hit, left-miss, same-loop}
 use Rattle.rules.proofs.Kev.{shrunk, kev-accepted, lone-here, row-other, shrunk-gone, emptied-loops, kev-is}
 use Rattle.rules.proofs.RingLists.{in-first, in-rest, in-cases, in-not-first, leads-led, Kept, ring-kept}
-use Rattle.rules.proofs.RingsLeft.{kept-without}
+use Rattle.rules.proofs.ErasedRings.{kept-without}
 
 module _ (b : Boundary) (h : ℕ) (s : Sound b) (h-used : Used b h) (to-mate : next b h ≡ mate h) where
   -- what is left of the ring of h, whatever the loops are

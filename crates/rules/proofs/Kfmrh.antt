@@ -21,8 +21,8 @@ use Rattle.rules.proofs.Rows.{true-T, not-eqb, unless-none, row-put-other, len
 use Rattle.rules.proofs.Counts.{count-clear, count-map, one-more-is}
 use Rattle.rules.proofs.Fields.{inner-lone, inner-hit, inner-miss, merged-outer, merged-shell, merged-hit, merged-miss}
 use Rattle.rules.proofs.Halves.{used-mate}
-use Rattle.rules.proofs.Edges.{continues-beside, loops-beside, vertices-beside}
-use Rattle.rules.proofs.Views.{Placed}
+use Rattle.rules.proofs.SameEdges.{continues-beside, loops-beside, vertices-beside}
+use Rattle.rules.proofs.RulesAsRings.{Placed}
 
 -- every rule but the balance
 record AllButBalance (b : Boundary) : Type 0 where

@@ -20,8 +20,8 @@ use Rattle.rules.proofs.Rows.{some-value, true-T, unless-none, row-put-other, 
 use Rattle.rules.proofs.Counts.{count-clear}
 use Rattle.rules.proofs.Fields.{one-loop-in, one-face-in, face-in-is}
 use Rattle.rules.proofs.Halves.{used-mate}
-use Rattle.rules.proofs.Edges.{continues-beside, loops-beside, vertices-beside}
-use Rattle.rules.proofs.Views.{HasHalf, Placed}
+use Rattle.rules.proofs.SameEdges.{continues-beside, loops-beside, vertices-beside}
+use Rattle.rules.proofs.RulesAsRings.{HasHalf, Placed}
 
 -- the face f is the only one of the shell a, the loop l the only one of f, and the vertex v is lone on l
 record Minimal (b : Boundary) (a f l v : ℕ) : Type 0 where

@@ -29,9 +29,9 @@ use Rattle.rules.specs.Rules.{Has, Used, turn, Sizes, Named, LoneVertices, Out
 use Rattle.rules.proofs.Rows.{true-T, not-eqb, unless-none, free-not-has, row-has, row-put-same, row-put-other, length-put, lone-has, none-not-some, some-same, has-apart}
 use Rattle.rules.proofs.Counts.{count-put-free}
 use Rattle.rules.proofs.Halves.{mate-of-even, mate-of-odd, new-edge, new-even, put-even, put-odd, half-put-other, put-used-even, put-used-odd, put-used-in, put-used-cases, owned-hit, owned-miss, used-mate}
-use Rattle.rules.proofs.Views.{paired, loop-rings, vertex-rings, loop-rings-by, vertex-rings-by, continues-by, next-used-by, HasHalf, owner-not-free}
+use Rattle.rules.proofs.RulesAsRings.{paired, loop-rings, vertex-rings, loop-rings-by, vertex-rings-by, continues-by, HasHalf, owner-not-free}
 use Rattle.rules.proofs.Runs.{Met, loop-meets, in-from-on, on-from-in, last-step}
-use Rattle.rules.proofs.Led.{Alike, owned-alike, led-twice, twice-has-in, twice-has-out, twice-length, twice-count, twice-start, twice-owner, twice-first, twice-second, twice-other}
+use Rattle.rules.proofs.LedEdges.{Alike, owned-alike, led-twice, twice-has-in, twice-has-out, twice-length, twice-count, twice-start, twice-owner, twice-first, twice-second, twice-other}
 
 -- what an accepted edit says
 pub record Asked (b : Boundary) (h j k f l : ℕ) : Type 0 where
@@ -274,7 +274,7 @@ module _ (b c : Boundary) (h j k x y f l : ℕ) (s : Sound b) (a : Asked b h j k
   new-named : Named c
   new-named = record {
     start-used = λ i u. let z = start-of i u in vertex-in (start c i) (subst (Has (b .vertices)) (sym (z .2)) (s .named .start-used (z .0) (z .1)));
-    next-used = next-used-by c new-rings;
+    next-used = new-rings .closed;
     owner-used = λ i u. elim (owner-of i u) [
       | inl e ↦ subst (Has (c .loops)) (sym e) loop-l
       | inr z ↦ subst (Has (c .loops)) (sym (z .2)) (loop-in (owner b (z .0)) (s .named .owner-used (z .0) (z .1)))

@@ -15,7 +15,7 @@ use Rattle.rules.proofs.Halves.{used-mate}
 use Rattle.rules.proofs.Mef.{Asked, asked, Made, has-made, on?, on-owner, off-owner, was-owner, lone-same}
 use Rattle.rules.proofs.RingLists.{in-none, in-first, in-rest, in-one, in-left, in-right, in-parts, in?, none-of-two, once-append, leads-append, leads-carried, Kept, ring-kept, Parts, parts-of}
 use Rattle.rules.proofs.RingRuns.{run-list}
-use Rattle.rules.proofs.Views.{owner-not-free}
+use Rattle.rules.proofs.RulesAsRings.{owner-not-free}
 
 module _ (b c : Boundary) (h j k x y f l : ℕ) (s : Sound b) (a : Asked b h j k f l) (d : Made b c h j x y f l) where
   y-new : Used b y → ⊥

@@ -28,9 +28,9 @@ use Rattle.rules.specs.Rules.{Has, Used, turn, Sizes, Named, LoneVertices, Out
 use Rattle.rules.proofs.Rows.{some-value, true-T, not-eqb, unless-none, free-not-has, row-put-other, length-put, has-clear-in, has-clear-out, lone-has, none-not-some, some-same}
 use Rattle.rules.proofs.Counts.{count-put-free, count-clear}
 use Rattle.rules.proofs.Halves.{half-of-even, mate-of-even, mate-of-odd, used-mate, new-edge, new-even, new-odd, put-even, put-odd, half-put-other, put-used-even, put-used-odd, put-used-in, put-used-cases, joined-hit, joined-miss}
-use Rattle.rules.proofs.Views.{loop-rings, vertex-rings, next-used-by, loop-rings-by, vertex-rings-by, continues-by, HasHalf, Placed}
-use Rattle.rules.proofs.Enter.{EnteredTwo, enter-two-keeps}
-use Rattle.rules.proofs.Led.{Alike, joined-alike, led-twice, twice-has-in, twice-has-out, twice-length, twice-count, twice-start, twice-owner, twice-first, twice-second, twice-other}
+use Rattle.rules.proofs.RulesAsRings.{loop-rings, vertex-rings, loop-rings-by, vertex-rings-by, continues-by, HasHalf, Placed}
+use Rattle.rules.proofs.RingsEntered.{EnteredTwo, enter-two-keeps}
+use Rattle.rules.proofs.LedEdges.{Alike, joined-alike, led-twice, twice-has-in, twice-has-out, twice-length, twice-count, twice-start, twice-owner, twice-first, twice-second, twice-other}
 use Rattle.rules.proofs.Fields.{with-lone, lone-has-in, lone-has-out, lone-other-row, lone-face, lone-row, lone-length, lone-count}
 
 -- the edges but the new one, where the ends have the targets p and q and lie on the loops l and m
@@ -402,7 +402,7 @@ module _ (b : Boundary) (p q : Option ℕ) (l m v w k : ℕ) (s : Sound b) (j : 
   named : Named new
   named = record {
     start-used = start-used;
-    next-used = next-used-by new new-loops;
+    next-used = new-loops .closed;
     owner-used = owner-used;
     lone-used = λ n i e. s .named .lone-used n i (lone-out n i e .2);
     face-used = face-used;

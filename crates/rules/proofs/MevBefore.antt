@@ -19,9 +19,9 @@ use Rattle.rules.specs.Rules.{Has, Used, turn, Sound}
 use Rattle.rules.proofs.Rows.{has-map-in, has-map-out, length-put, length-mapped}
 use Rattle.rules.proofs.Counts.{count-put-free, count-map}
 use Rattle.rules.proofs.Halves.{mate-of-even, mate-of-odd, mate-mate, used-mate, new-edge, put-even, put-odd, half-put-other, put-used-even, put-used-odd, put-used-in, put-used-cases, led-start, led-owner, led-hit, led-miss}
-use Rattle.rules.proofs.Views.{loop-rings, vertex-rings}
-use Rattle.rules.proofs.Added.{pair-inserted, one-inserted}
-use Rattle.rules.proofs.Grown.{NewEdge, LoopsFor, grown-sound, owners-more, starts-more, new-start}
+use Rattle.rules.proofs.RulesAsRings.{loop-rings, vertex-rings}
+use Rattle.rules.proofs.RingsTwoMore.{pair-inserted, one-inserted}
+use Rattle.rules.proofs.OneEdgeMore.{NewEdge, LoopsFor, grown-sound, owners-more, starts-more, new-start}
 
 -- the new edge, and the edges with it
 abbrev pub before-edge : Boundary → ℕ → ℕ → ℕ → Edge

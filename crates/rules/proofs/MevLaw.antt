@@ -17,7 +17,7 @@ use Rattle.boundary.specs.Refusals.{mev-refusal}
 use Rattle.rules.specs.Rules.{Has, Used, Sound}
 use Rattle.rules.specs.RingLaws.{leads-to, once, RingOf, At, at-half-edge, at-lone, Else, MevLaw}
 use Rattle.rules.proofs.Halves.{new-even, new-odd}
-use Rattle.rules.proofs.Grown.{NewEdge}
+use Rattle.rules.proofs.OneEdgeMore.{NewEdge}
 use Rattle.rules.proofs.MevBefore.{next-even, next-odd, next-hit, next-miss, new-edge-is}
 use Rattle.rules.proofs.MevLone.{next-even as lone-even, next-odd as lone-odd, next-old, new-edge-is as lone-edge-is, row-other}
 use Rattle.rules.proofs.Mev.{mev-free}

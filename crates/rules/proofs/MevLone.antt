@@ -19,9 +19,9 @@ use Rattle.rules.specs.Rules.{Has, Used, Sound}
 use Rattle.rules.proofs.Rows.{none-not-some, some-same, has-apart, lone-has, length-put}
 use Rattle.rules.proofs.Counts.{count-put-free}
 use Rattle.rules.proofs.Halves.{mate-of-even, mate-of-odd, used-mate, new-edge, put-even, put-odd, half-put-other, put-used-even, put-used-odd, put-used-in, put-used-cases}
-use Rattle.rules.proofs.Views.{loop-rings, vertex-rings}
-use Rattle.rules.proofs.Added.{pair-started, two-started}
-use Rattle.rules.proofs.Grown.{NewEdge, LoopsFor, grown, grown-sound, owners-more, starts-more, new-start}
+use Rattle.rules.proofs.RulesAsRings.{loop-rings, vertex-rings}
+use Rattle.rules.proofs.RingsTwoMore.{pair-started, two-started}
+use Rattle.rules.proofs.OneEdgeMore.{NewEdge, LoopsFor, grown, grown-sound, owners-more, starts-more, new-start}
 use Rattle.rules.proofs.Fields.{with-lone, lone-has-in, lone-has-out, lone-other-row, lone-face, lone-row, lone-length, lone-count}
 
 abbrev pub ring-edge : ℕ → ℕ → ℕ → ℕ → Edge

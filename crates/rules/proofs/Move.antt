@@ -12,7 +12,7 @@ use Rattle.boundary.specs.Refusals.{move-refusal}
 use Rattle.rules.specs.Rules.{Has, Sizes, Named, LoneVertices, Outer, Balanced, Sound}
 use Rattle.rules.proofs.Rows.{true-T, unless-none, length-put, has-put-other-in, has-put-again}
 use Rattle.rules.proofs.Counts.{count-put-used}
-use Rattle.rules.proofs.Edges.{continues-beside, loops-beside, vertices-beside}
+use Rattle.rules.proofs.SameEdges.{continues-beside, loops-beside, vertices-beside}
 
 module _ (b : Boundary) (v : ℕ) (p : Point) (s : Sound b) (u : Has (b .vertices) v) where
   still : (w : ℕ) → Has (b .vertices) w → Has (move b v p .vertices) w

@@ -19,9 +19,9 @@ use Rattle.rules.specs.Rules.{Has, Used, Sizes, Named, LoneVertices, Outer, On
 use Rattle.rules.proofs.Rows.{unless-none, free-not-has, has-apart, row-put-same, row-put-other, length-put, has-put-same, has-put-other-in, has-put-cases, lone-has}
 use Rattle.rules.proofs.Counts.{count-put-free}
 use Rattle.rules.proofs.Halves.{used-mate}
-use Rattle.rules.proofs.Edges.{continues-beside, loops-beside, vertices-beside}
+use Rattle.rules.proofs.SameEdges.{continues-beside, loops-beside, vertices-beside}
 use Rattle.std.proofs.shelf.Tests.{and-parts}
-use Rattle.rules.proofs.Views.{HasHalf, Placed}
+use Rattle.rules.proofs.RulesAsRings.{HasHalf, Placed}
 
 -- the four numbers are in range and free
 pub record Fresh (b : Boundary) (a f l v : ℕ) : Type 0 where

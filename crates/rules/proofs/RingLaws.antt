@@ -3,7 +3,7 @@ use Rattle.boundary.specs.declared.Boundary.{Boundary}
 use Rattle.rules.specs.Rules.{Sound}
 use Rattle.rules.specs.RingLaws.{RingLaws}
 use Rattle.rules.proofs.RingsExist.{has-rings}
-use Rattle.rules.proofs.BesideLaws.{mvfs-law, kvfs-law, kfmrh-law, move-law}
+use Rattle.rules.proofs.SameEdgesLaws.{mvfs-law, kvfs-law, kfmrh-law, move-law}
 use Rattle.rules.proofs.MevLaw.{mev-law}
 use Rattle.rules.proofs.KevLaw.{kev-law}
 use Rattle.rules.proofs.MefLaw.{mef-law}

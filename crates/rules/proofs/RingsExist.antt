@@ -11,7 +11,7 @@ use Rattle.rings.proofs.Walks.{walk-first}
 use Rattle.rings.proofs.Round.{comes-round, round}
 use Rattle.rules.specs.Rules.{Used, Sound}
 use Rattle.rules.specs.RingLaws.{leads-to, once, RingOf, HasRings}
-use Rattle.rules.proofs.Views.{loop-rings}
+use Rattle.rules.proofs.RulesAsRings.{loop-rings}
 use Rattle.rules.proofs.RingLists.{first-or, leads-more}
 
 -- a walk leads along its own list

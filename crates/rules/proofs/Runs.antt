@@ -14,7 +14,7 @@ use Rattle.rings.proofs.Walks.{walk-first}
 use Rattle.rings.proofs.Round.{meets, within-bound, has-from-on, on-from-has}
 use Rattle.rules.specs.Rules.{Used, Sound}
 use Rattle.rules.proofs.Halves.{used-small}
-use Rattle.rules.proofs.Views.{loop-rings}
+use Rattle.rules.proofs.RulesAsRings.{loop-rings}
 
 -- one step on, the rest is a first time too
 first-on : (f : ℕ → ℕ) (h k m : ℕ) → First f h k (suc m) → First f (f h) k m

@@ -24,9 +24,9 @@ use Rattle.rules.specs.Rules.{Has, Used, Sound}
 use Rattle.rules.specs.RingLaws.{run-place}
 use Rattle.rules.proofs.Rows.{has-row, has-below, no-row, row-put-same, row-put-other, length-put, none-not-some, some-same}
 use Rattle.rules.proofs.Halves.{half-of-even, half-even, half-odd, mate-of-even, joined-hit, joined-miss}
-use Rattle.rules.proofs.Views.{loop-rings, half-below, owner-not-free, lone-not-owner}
-use Rattle.rules.proofs.Led.{Alike, joined-alike, twice-has-in, twice-has-out, twice-length, twice-start, twice-owner, twice-first, twice-second, twice-other}
-use Rattle.rules.proofs.Erase.{past-on, halves-apart, after-x, after-y}
+use Rattle.rules.proofs.RulesAsRings.{loop-rings, half-below, owner-not-free, lone-not-owner}
+use Rattle.rules.proofs.LedEdges.{Alike, joined-alike, twice-has-in, twice-has-out, twice-length, twice-start, twice-owner, twice-first, twice-second, twice-other}
+use Rattle.rules.proofs.ErasedEdge.{past-on, halves-apart, after-x, after-y}
 use Rattle.rules.proofs.Undo.{put-back, row-by-halves, same-half}
 use Rattle.rules.proofs.Accepted.{half-place, lone-place}
 use Rattle.rules.proofs.Kemr.{Asked, asked, Left, x-not-self, y-not-self, after-x-used, after-y-owner, after-x-on, after-y-off, on-owner, off-owner, was-owner, owner-was, plain, kemr-is, is-left}

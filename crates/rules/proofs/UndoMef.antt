@@ -20,11 +20,11 @@ use Rattle.boundary.specs.Refusals.{mef-refusal}
 use Rattle.rules.specs.Rules.{Has, Used, Sound}
 use Rattle.rules.proofs.Rows.{no-row, some-same}
 use Rattle.rules.proofs.Halves.{half-of-even, half-of-odd, mate-of-odd, new-even, new-odd, joined-hit, joined-miss}
-use Rattle.rules.proofs.Erase.{past-on}
+use Rattle.rules.proofs.ErasedEdge.{past-on}
 use Rattle.rules.proofs.Mef.{Asked, asked, Made, has-made, on?, on-owner, off-owner, was-owner}
 use Rattle.rules.proofs.Undo.{put-back, put-clear, row-by-halves, same-half}
-use Rattle.rules.proofs.Led.{Alike, joined-alike, led-twice, twice-has-in, twice-has-out, twice-length, twice-start, twice-owner, twice-first, twice-second, twice-other}
-use Rattle.rules.proofs.Views.{owner-not-free}
+use Rattle.rules.proofs.LedEdges.{Alike, joined-alike, led-twice, twice-has-in, twice-has-out, twice-length, twice-start, twice-owner, twice-first, twice-second, twice-other}
+use Rattle.rules.proofs.RulesAsRings.{owner-not-free}
 
 -- the operator with what it reads of the boundary handed to it
 abbrev kef-parts : Bool → Boundary → ℕ → ℕ → ℕ → ℕ → ℕ → ℕ → ℕ → ℕ → ℕ → Boundary

@@ -20,8 +20,8 @@ use Rattle.rules.specs.Rules.{Has, Used, turn, Sizes, Named, LoneVertices, Out
 use Rattle.rules.proofs.Rows.{has-apart, has-put-same, has-put-other-in, has-put-cases, length-put}
 use Rattle.rules.proofs.Counts.{count-put-free}
 use Rattle.rules.proofs.Halves.{mate-of-even, mate-of-odd, used-mate, new-odd}
-use Rattle.rules.proofs.Views.{loop-rings-by, vertex-rings-by, continues-by, HasHalf, Placed}
-use Rattle.rules.proofs.Added.{TwoMore}
+use Rattle.rules.proofs.RulesAsRings.{loop-rings-by, vertex-rings-by, continues-by, HasHalf, Placed}
+use Rattle.rules.proofs.RingsTwoMore.{TwoMore}
 
 abbrev pub grown : Boundary → List (Option Loop) → List (Option Edge) → ℕ → Point → Boundary
 grown b ls es v p = record { shells = b .shells; faces = b .faces; loops = ls; edges = es; vertices = set (b .vertices) v (Some p); handles = b .handles }

@@ -9,7 +9,7 @@ use Rattle.boundary.specs.Tables.{next, owner}
 use Rattle.boundary.specs.Operators.{past}
 use Rattle.rules.specs.Rules.{Used, Sound}
 use Rattle.rules.specs.RingLaws.{leads-to, GoesRound, once}
-use Rattle.rules.proofs.Erase.{Gone, past-on, past-over}
+use Rattle.rules.proofs.ErasedEdge.{Gone, past-on, past-over}
 use Rattle.rules.proofs.RingLists.{in-first, in-rest, first-or, leads-carried, Kept}
 
 -- along a list without x and y that led to t and leads to k

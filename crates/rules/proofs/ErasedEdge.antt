@@ -26,8 +26,8 @@ use Rattle.rules.specs.Rules.{Has, Used, turn, Sound}
 use Rattle.rules.proofs.Rows.{length-put, some-same}
 use Rattle.rules.proofs.Counts.{count-clear}
 use Rattle.rules.proofs.Halves.{mate-apart, other-edge, half-put-other, clear-mates-in, clear-mates-out}
-use Rattle.rules.proofs.Views.{paired, loop-rings, vertex-rings, Placed}
-use Rattle.rules.proofs.Led.{Alike, led-twice, twice-has-in, twice-has-out, twice-length, twice-count, twice-start, twice-owner, twice-first, twice-second, twice-other}
+use Rattle.rules.proofs.RulesAsRings.{paired, loop-rings, vertex-rings, Placed}
+use Rattle.rules.proofs.LedEdges.{Alike, led-twice, twice-has-in, twice-has-out, twice-length, twice-count, twice-start, twice-owner, twice-first, twice-second, twice-other}
 use Rattle.rules.proofs.Fields.{with-lone, lone-has-in, lone-has-out, lone-other-row, lone-face, lone-row, lone-length, lone-count}
 
 -- where a step leads that passes both x and y, once they have exchanged what follows them

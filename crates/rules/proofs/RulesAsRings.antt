@@ -43,14 +43,8 @@ pub lone-not-owner : (b : Boundary) → Sound b → (h : ℕ) → Used b h → (
 lone-not-owner b s h u l v e q = s .lone .lone-alone l v h e u (sym q)
 
 -- back: the rules that such rings give
-pub next-used-by : (b : Boundary) → Rings (next b) (Used b) (owner b) → (h : ℕ) → Used b h → Used b (next b h)
-next-used-by b r = r .closed
-
 pub loop-rings-by : (b : Boundary) → Rings (next b) (Used b) (owner b) → LoopRings b
 loop-rings-by b r = record { stays = r .label; one-ring = r .one-ring }
-
-pub apart-by : (b : Boundary) → Rings (next b) (Used b) (owner b) → (h k : ℕ) → Used b h → Used b k → next b h ≡ next b k → h ≡ k
-apart-by b r h k u v e = injective r h k u v e
 
 pub vertex-rings-by : (b : Boundary) → Rings (turn b) (Used b) (start b) → VertexRings b
 vertex-rings-by b r = record { one-ring = r .one-ring }
@@ -60,4 +54,4 @@ pub goes-on-by : (b : Boundary) → Rings (turn b) (Used b) (start b) → (h : �
 goes-on-by b r h u = ap (λ i. start b (next b i)) (sym (mate-mate h)) ∙ r .label (mate h) (used-mate b h u)
 
 pub continues-by : (b : Boundary) → Rings (next b) (Used b) (owner b) → Rings (turn b) (Used b) (start b) → Continues b
-continues-by b r v = record { goes-on = goes-on-by b v; apart = apart-by b r }
+continues-by b r v = record { goes-on = goes-on-by b v; apart = injective r }
