@@ -7,7 +7,6 @@ pub mod LedEdges
 pub mod Accepted
 -- Rings, as the rules state them, as walks and as lists.
 pub mod RulesAsRings
-pub mod RingsTwoMore
 pub mod RingsEntered
 pub mod Runs
 pub mod RingLists

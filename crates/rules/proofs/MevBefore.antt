@@ -1,27 +1,23 @@
 -- The new edge k at a half-edge h: 2k and 2k + 1 come just before h, and the rules are kept.
-use mathlib.Core.Path.{_≡_, refl, sym, ap, _∙_}
+use mathlib.Core.Path.{_≡_, refl, sym, ap, _∙_, subst}
 use mathlib.Core.Logic.{_≢_, _⊎_, inl, inr}
 use mathlib.Core.List.{List}
 use Prim.Native.Nat.{ℕ, _+_, _*_, _/_, _<_}
 use native.Mathlib.Omega.{arith}
 use lib.ListN.{length, set}
 use Rattle.std.specs.declared.option.Option.{Option}
-use Rattle.std.specs.declared.option.Option.the-variants.{Some}
+use Rattle.std.specs.declared.option.Option.the-variants.{Some, None}
 use Rattle.boundary.specs.declared.Point.{Point}
 use Rattle.boundary.specs.declared.Edge.{Edge}
 use Rattle.boundary.specs.declared.Boundary.{Boundary}
-use Rattle.boundary.specs.Tables.{half-in, start, next, owner, mate}
+use Rattle.boundary.specs.Tables.{half-in, start, next, owner, lone}
 use Rattle.boundary.specs.Changes.{led-edge, led-in}
 use Rattle.boundary.specs.Operators.{half-edge, edge, mev-before}
-use Rattle.rings.specs.Rings.{Rings}
-use Rattle.rings.proofs.Facts.{before}
-use Rattle.rules.specs.Rules.{Has, Used, turn, Sound}
-use Rattle.rules.proofs.Rows.{has-map-in, has-map-out, length-put, length-mapped}
+use Rattle.rules.specs.Rules.{Has, Used, Sound}
+use Rattle.rules.proofs.Rows.{has-map-in, has-map-out, length-put, length-mapped, none-not-some, some-same}
 use Rattle.rules.proofs.Counts.{count-put-free, count-map}
-use Rattle.rules.proofs.Halves.{mate-of-even, mate-of-odd, mate-mate, used-mate, new-edge, put-even, put-odd, half-put-other, put-used-even, put-used-odd, put-used-in, put-used-cases, led-start, led-owner, led-hit, led-miss}
-use Rattle.rules.proofs.RulesAsRings.{loop-rings, vertex-rings}
-use Rattle.rules.proofs.RingsTwoMore.{pair-inserted, one-inserted}
-use Rattle.rules.proofs.OneEdgeMore.{NewEdge, LoopsFor, grown-sound, owners-more, starts-more, new-start}
+use Rattle.rules.proofs.Halves.{new-edge, put-even, put-odd, half-put-other, put-used-even, put-used-odd, put-used-in, put-used-cases, led-start, led-owner, led-hit, led-miss}
+use Rattle.rules.proofs.OneEdgeMore.{NewEdge, LoopsFor, grown-sound, loops-more, vertices-more}
 
 -- the new edge, and the edges with it
 abbrev pub before-edge : Boundary → ℕ → ℕ → ℕ → Edge
@@ -95,47 +91,15 @@ module _ (b : Boundary) (h k v : ℕ) (s : Sound b) (h-used : Used b h) (k-small
     lone-still = λ m u e. inr e;
   }
 
-  -- the half-edge before h
-  q : ℕ
-  q = before (loop-rings b s) h h-used .0
-
-  q-used : Used b q
-  unfolding q
-  q-used = before (loop-rings b s) h h-used .1
-
-  q-next : next b q ≡ h
-  unfolding q
-  q-next = before (loop-rings b s) h h-used .2
-
-  not-q : (j : ℕ) → Used b j → j ≢ q → next b j ≢ h
-  not-q j u ne e = ne (s .continues .apart j q u q-used (e ∙ sym q-next))
-
-  abbrev Now : ℕ → Type 0
-  Now j = Has es (j / 2)
-
-  loops-then : Rings (λ j. half-in es j .next) Now (λ j. half-in es j .owner)
-  loops-then =
-      pair-inserted (owners-more b es k (start b h) v (owner b h) new-edge-is k-free) (loop-rings b s) q q-used (next-hit q q-used q-next) next-even (next-odd ∙ sym q-next) (λ j u ne. next-miss j u (not-q j u ne)) (new-edge-is .owner-even ∙ owner-q) (new-edge-is .owner-odd ∙ owner-q)
-    where
-      owner-q : owner b h ≡ owner b q
-      owner-q = ap (owner b) (sym q-next) ∙ s .loops .stays q q-used
-
-  vertices-then : (Has (b .vertices) v → ⊥) → Rings (λ j. half-in es (mate j) .next) Now (λ j. half-in es j .start)
-  vertices-then v-free =
-      one-inserted (starts-more b es k (start b h) v (owner b h) new-edge-is k-free) (vertex-rings b s) (mate q) (used-mate b q q-used) to-even (ap (λ j. half-in es j .next) (mate-of-even k) ∙ next-odd ∙ sym turn-q) (ap (λ j. half-in es j .next) (mate-of-odd k) ∙ next-even) other (new-edge-is .start-even ∙ start-q) (new-start b es k (start b h) v (owner b h) new-edge-is k-free s v-free)
-    where
-      turn-q : turn b (mate q) ≡ h
-      turn-q = ap (next b) (mate-mate q) ∙ q-next
-
-      to-even : half-in es (mate (mate q)) .next ≡ 2 * k
-      to-even = ap (λ j. half-in es j .next) (mate-mate q) ∙ next-hit q q-used q-next
-
-      other : (j : ℕ) → Used b j → j ≢ mate q → half-in es (mate j) .next ≡ turn b j
-      other j u ne = next-miss (mate j) (used-mate b j u) (not-q (mate j) (used-mate b j u) (λ e. ne (sym (mate-mate j) ∙ ap mate e)))
-
-      start-q : start b h ≡ start b (mate q)
-      start-q = ap (start b) (sym q-next) ∙ s .continues .goes-on q q-used
+  at-h : (a : ℕ) → Some h ≡ Some a → Used b a × (owner b a ≡ owner b h) × (start b a ≡ start b h)
+  at-h a e = let q = some-same refl e in (subst (Used b) q h-used, ap (owner b) (sym q), ap (start b) (sym q))
 
   pub before-sound : (p : Point) → (Has (b .vertices) v → ⊥) → v < 128 → Sound (mev-before b h k v p)
   before-sound p v-free v-small =
-      grown-sound b (b .loops) es k (start b h) v (owner b h) p s new-edge-is loops-for (s .named .start-used h h-used) v-free v-small (s .named .owner-used h h-used) loops-then (vertices-then v-free)
+      let w-used = s .named .start-used h h-used in
+      let hit : (j : ℕ) → Used b j → Some h ≡ Some (next b j) → half-in es j .next ≡ 2 * k = λ j u e. next-hit j u (sym (some-same refl e)) in
+      let miss : (j : ℕ) → Used b j → Some h ≢ Some (next b j) → half-in es j .next ≡ next b j = λ j u n. next-miss j u (λ e. n (ap Some (sym e))) in
+      let alone : Some h ≡ None → lone b (owner b h) ≡ Some (start b h) = λ e. absurd (none-not-some e refl) in
+      grown-sound b (b .loops) es k (start b h) v (owner b h) p s new-edge-is loops-for w-used v-free v-small (s .named .owner-used h h-used)
+      (loops-more b es k (start b h) v (owner b h) (Some h) s new-edge-is k-free next-even next-odd hit miss at-h alone)
+      (vertices-more b es k (start b h) v (owner b h) (Some h) s new-edge-is k-free next-even next-odd hit miss at-h alone w-used v-free)

@@ -1,5 +1,5 @@
 -- The new edge k at a loop l with a lone vertex w: 2k and 2k + 1 become its ring, and the rules are kept.
-use mathlib.Core.Path.{_≡_, sym, ap, _∙_}
+use mathlib.Core.Path.{_≡_, sym, ap, _∙_, refl}
 use mathlib.Core.Logic.{_≢_, _⊎_, inl, inr}
 use mathlib.Core.List.{List}
 use Prim.Native.Nat.{ℕ, _+_, _*_, _/_, _<_}
@@ -12,16 +12,13 @@ use Rattle.boundary.specs.declared.Point.{Point}
 use Rattle.boundary.specs.declared.Edge.{Edge}
 use Rattle.boundary.specs.declared.Loop.{Loop}
 use Rattle.boundary.specs.declared.Boundary.{Boundary}
-use Rattle.boundary.specs.Tables.{row, half-in, start, next, owner, mate, lone, lone-of}
+use Rattle.boundary.specs.Tables.{row, half-in, start, next, owner, lone, lone-of}
 use Rattle.boundary.specs.Operators.{half-edge, edge}
-use Rattle.rings.specs.Rings.{Rings}
 use Rattle.rules.specs.Rules.{Has, Used, Sound}
-use Rattle.rules.proofs.Rows.{none-not-some, some-same, has-apart, lone-has, length-put}
+use Rattle.rules.proofs.Rows.{none-not-some, some-same, lone-has, length-put}
 use Rattle.rules.proofs.Counts.{count-put-free}
-use Rattle.rules.proofs.Halves.{mate-of-even, mate-of-odd, used-mate, new-edge, put-even, put-odd, half-put-other, put-used-even, put-used-odd, put-used-in, put-used-cases}
-use Rattle.rules.proofs.RulesAsRings.{loop-rings, vertex-rings}
-use Rattle.rules.proofs.RingsTwoMore.{pair-started, two-started}
-use Rattle.rules.proofs.OneEdgeMore.{NewEdge, LoopsFor, grown, grown-sound, owners-more, starts-more, new-start}
+use Rattle.rules.proofs.Halves.{new-edge, put-even, put-odd, half-put-other, put-used-even, put-used-odd, put-used-in, put-used-cases}
+use Rattle.rules.proofs.OneEdgeMore.{NewEdge, LoopsFor, grown, grown-sound, loops-more, vertices-more}
 use Rattle.rules.proofs.Fields.{with-lone, lone-has-in, lone-has-out, lone-other-row, lone-face, lone-row, lone-length, lone-count}
 
 abbrev pub ring-edge : ℕ → ℕ → ℕ → ℕ → Edge
@@ -106,22 +103,12 @@ module _ (b : Boundary) (l k v w : ℕ) (s : Sound b) (w-lone : lone b l ≡ Som
     ];
   }
 
-  abbrev Now : ℕ → Type 0
-  Now j = Has es (j / 2)
-
-  loops-then : Rings (λ j. half-in es j .next) Now (λ j. half-in es j .owner)
-  loops-then = pair-started (owners-more b es k w v l new-edge-is k-free) (loop-rings b s) next-even next-odd next-old (new-edge-is .owner-even ∙ sym (new-edge-is .owner-odd)) (λ j u e. s .lone .lone-alone l w j w-lone u (e ∙ new-edge-is .owner-odd))
-
-  vertices-then : (Has (b .vertices) v → ⊥) → Rings (λ j. half-in es (mate j) .next) Now (λ j. half-in es j .start)
-  vertices-then v-free =
-      two-started (starts-more b es k w v l new-edge-is k-free) (vertex-rings b s) (ap (λ j. half-in es j .next) (mate-of-even k) ∙ next-odd) (ap (λ j. half-in es j .next) (mate-of-odd k) ∙ next-even) (λ j u. next-old (mate j) (used-mate b j u)) fresh-w (new-start b es k w v l new-edge-is k-free s v-free) apart
-    where
-      fresh-w : (j : ℕ) → Used b j → start b j ≢ half-in es (2 * k) .start
-      fresh-w j u e = s .lone .not-both l w j w-lone u (e ∙ new-edge-is .start-even)
-
-      apart : half-in es (2 * k + 1) .start ≢ half-in es (2 * k) .start
-      apart e = has-apart (b .vertices) w v (s .named .lone-used l w w-lone) v-free (sym (new-edge-is .start-even) ∙ sym e ∙ new-edge-is .start-odd)
-
   pub lone-sound : (p : Point) → (Has (b .vertices) v → ⊥) → v < 128 → Sound (grown b (bare-loops b l) (ring-edges b l k w v) v p)
   lone-sound p v-free v-small =
-      grown-sound b ls es k w v l p s new-edge-is loops-for (s .named .lone-used l w w-lone) v-free v-small l-used loops-then (vertices-then v-free)
+      let w-used = s .named .lone-used l w w-lone in
+      let hit : (j : ℕ) → Used b j → None ≡ Some (next b j) → half-in es j .next ≡ 2 * k = λ j u e. absurd (none-not-some refl e) in
+      let miss : (j : ℕ) → Used b j → None ≢ Some (next b j) → half-in es j .next ≡ next b j = λ j u n. next-old j u in
+      let at : (a : ℕ) → None ≡ Some a → Used b a × (owner b a ≡ l) × (start b a ≡ w) = λ a e. absurd (none-not-some refl e) in
+      grown-sound b ls es k w v l p s new-edge-is loops-for w-used v-free v-small l-used
+      (loops-more b es k w v l None s new-edge-is k-free next-even next-odd hit miss at (λ e. w-lone))
+      (vertices-more b es k w v l None s new-edge-is k-free next-even next-odd hit miss at (λ e. w-lone) w-used v-free)

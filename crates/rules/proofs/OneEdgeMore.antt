@@ -17,11 +17,12 @@ use Rattle.boundary.specs.declared.Boundary.{Boundary}
 use Rattle.boundary.specs.Tables.{row, count, half-in, start, next, owner, mate, lone, lone-of, face-of, outer-of, loop-face, face-shell, loop-shell}
 use Rattle.rings.specs.Rings.{Rings}
 use Rattle.rules.specs.Rules.{Has, Used, turn, Sizes, Named, LoneVertices, Outer, OneShell, Balanced, Sound}
-use Rattle.rules.proofs.Rows.{has-apart, has-put-same, has-put-other-in, has-put-cases, length-put}
+use Rattle.rules.proofs.Rows.{has-apart, has-put-same, has-put-other-in, has-put-cases, length-put, none-not-some}
 use Rattle.rules.proofs.Counts.{count-put-free}
-use Rattle.rules.proofs.Halves.{mate-of-even, mate-of-odd, used-mate, new-odd}
-use Rattle.rules.proofs.RulesAsRings.{loop-rings-by, vertex-rings-by, continues-by, HasHalf, Placed}
-use Rattle.rules.proofs.RingsTwoMore.{TwoMore}
+use Rattle.rules.proofs.Halves.{mate-of-even, mate-of-odd, used-mate, new-odd, new-even}
+use Rattle.rules.proofs.RulesAsRings.{loop-rings-by, vertex-rings-by, continues-by, HasHalf, Placed, loop-rings, vertex-rings}
+use Rattle.rules.proofs.RingsEntered.{enter-pair-keeps, enter-two-keeps}
+use Rattle.std.specs.Options.{valueOr}
 
 abbrev pub grown : Boundary → List (Option Loop) → List (Option Edge) → ℕ → Point → Boundary
 grown b ls es v p = record { shells = b .shells; faces = b .faces; loops = ls; edges = es; vertices = set (b .vertices) v (Some p); handles = b .handles }
@@ -190,17 +191,48 @@ module _ (b : Boundary) (ls : List (Option Loop)) (es : List (Option Edge)) (k w
     balanced = grown-balanced;
   }
 
--- the two halves come into use, on the loops and round the vertices
-module _ (b : Boundary) (es : List (Option Edge)) (k w v l : ℕ) (e : NewEdge b es k w v l) (k-free : Has (b .edges) k → ⊥) where
-  odd-new : Used b (2 * k + 1) → ⊥
-  odd-new u = new-odd (b .edges) k (2 * k + 1) k-free u refl
+-- the rings then, where 2k and 2k + 1 come in just before the target t at w, or t is none and w was lone on l
+module _ (b : Boundary) (es : List (Option Edge)) (k w v l : ℕ) (t : Option ℕ) (s : Sound b) (e : NewEdge b es k w v l) (k-free : Has (b .edges) k → ⊥)
+    (next-even : half-in es (2 * k) .next ≡ 2 * k + 1) (next-odd : half-in es (2 * k + 1) .next ≡ valueOr t (2 * k))
+    (hit : (j : ℕ) → Used b j → t ≡ Some (next b j) → half-in es j .next ≡ 2 * k) (miss : (j : ℕ) → Used b j → t ≢ Some (next b j) → half-in es j .next ≡ next b j)
+    (at : (a : ℕ) → t ≡ Some a → Used b a × (owner b a ≡ l) × (start b a ≡ w)) (alone : t ≡ None → lone b l ≡ Some w) where
+  pub loops-more : Rings (λ j. half-in es j .next) (λ j. Has es (j / 2)) (λ j. half-in es j .owner)
+  loops-more = enter-pair-keeps (loop-rings b s) (record {
+    y-new = λ u. new-odd (b .edges) k (2 * k + 1) k-free u refl;
+    x-step = next-even;
+    y-step = next-odd;
+    led = hit;
+    other-step = miss;
+    in-use = e .used-cases;
+    x-in-use = e .used-even;
+    y-in-use = e .used-odd;
+    still-in-use = e .used-in;
+    x-label = e .owner-even;
+    y-label = e .owner-odd;
+    other-label = e .owner-old;
+    at = λ a q. (at a q .0, at a q .1);
+    fresh = λ q j u. s .lone .lone-alone l w j (alone q) u;
+  })
 
-  pub owners-more : TwoMore (Used b) (λ j. Has es (j / 2)) (owner b) (λ j. half-in es j .owner) (2 * k) (2 * k + 1)
-  owners-more = record { y-new = odd-new; in-use = e .used-cases; x-in-use = e .used-even; y-in-use = e .used-odd; still-in-use = e .used-in; other-label = e .owner-old }
-
-  pub starts-more : TwoMore (Used b) (λ j. Has es (j / 2)) (start b) (λ j. half-in es j .start) (2 * k) (2 * k + 1)
-  starts-more = record { y-new = odd-new; in-use = e .used-cases; x-in-use = e .used-even; y-in-use = e .used-odd; still-in-use = e .used-in; other-label = e .start-old }
-
-  -- no half-edge started at the new vertex
-  pub new-start : Sound b → (Has (b .vertices) v → ⊥) → (j : ℕ) → Used b j → start b j ≢ half-in es (2 * k + 1) .start
-  new-start s v-free j u q = has-apart (b .vertices) (start b j) v (s .named .start-used j u) v-free (q ∙ e .start-odd)
+  pub vertices-more : Has (b .vertices) w → (Has (b .vertices) v → ⊥) → Rings (λ j. half-in es (mate j) .next) (λ j. Has es (j / 2)) (λ j. half-in es j .start)
+  vertices-more w-used v-free = enter-two-keeps {s = t} {t = None} (vertex-rings b s) (record {
+    x-new = λ u. new-even (b .edges) k (2 * k) k-free u refl;
+    x-step = ap (λ j. half-in es j .next) (mate-of-even k) ∙ next-odd;
+    y-step = ap (λ j. half-in es j .next) (mate-of-odd k) ∙ next-even;
+    led-x = λ j u q. hit (mate j) (used-mate b j u) q;
+    led-y = λ j u q. absurd (none-not-some refl q);
+    other-step = λ j u n o. miss (mate j) (used-mate b j u) n;
+    in-use = e .used-cases;
+    x-in-use = e .used-even;
+    y-in-use = e .used-odd;
+    still-in-use = e .used-in;
+    x-label = e .start-even;
+    y-label = e .start-odd;
+    other-label = e .start-old;
+    at-x = λ a q. (at a q .0, at a q .2);
+    at-y = λ a q. absurd (none-not-some refl q);
+    fresh-x = λ q j u. s .lone .not-both l w j (alone q) u;
+    fresh-y = λ q j u. has-apart (b .vertices) (start b j) v (s .named .start-used j u) v-free;
+    apart = λ a p q. none-not-some refl q;
+    two-rings = λ q. has-apart (b .vertices) w v w-used v-free;
+  })

@@ -1,4 +1,4 @@
--- An element comes in just before another, or starts a ring of its own: told by a target, which is that other element or none. Then two elements, each at its own target.
+-- An element comes in just before another, or starts a ring of its own: told by a target, which is that other element or none. Then two elements, each at its own target, or one just before the other.
 use mathlib.Core.Path.{_≡_, refl, sym, ap, subst, _∙_}
 use mathlib.Core.Logic.{_≢_, _⊎_, inl, inr, ite, if-pos, if-neg}
 use Prim.Native.Nat.{ℕ}
@@ -86,6 +86,24 @@ unfolding enter
 enter-other f None x h ne n = put-other f x x h ne
 enter-other f (Some a) x h ne n = put-other (λ i. ite (ℕ-discrete (f i) a) x (f i)) x a h ne ∙ if-neg (ℕ-discrete (f h) a) (λ e. n (ap Some (sym e))) x (f h)
 
+-- and how it has come in
+entered-alone : {f : ℕ → ℕ} {used : ℕ → Type 0} {lab : ℕ → ℕ} (t : Option ℕ) (x l : ℕ) → (used x → ⊥) → ((a : ℕ) → t ≡ Some a → used a × (lab a ≡ l)) → (t ≡ None → (h : ℕ) → used h → lab h ≢ l) → Entered f (enter f t x) used (λ h. (h ≡ x) ⊎ used h) lab (put lab x l) t x l
+entered-alone {f} {used} {lab} t x l new at fresh = record {
+  x-step = enter-x f t x;
+  led = λ h u e. enter-led f t x h (apart h u) e;
+  other-step = λ h u n. enter-other f t x h (apart h u) n;
+  in-use = λ h u. u;
+  x-in-use = inl refl;
+  still-in-use = λ h u. inr u;
+  x-label = put-same lab x l;
+  other-label = λ h u. put-other lab x l h (apart h u);
+  at = at;
+  fresh = fresh;
+}
+  where
+    apart : (h : ℕ) → used h → h ≢ x
+    apart h u e = new (subst used e u)
+
 -- x comes in at the target s on the ring l, and y at the target t on the ring m
 pub record EnteredTwo (f f′ : ℕ → ℕ) (used used′ : ℕ → Type 0) (lab lab′ : ℕ → ℕ) (s t : Option ℕ) (x y l m : ℕ) : Type 0 where
   pub x-new : used x → ⊥
@@ -126,18 +144,7 @@ module _ {f f′ : ℕ → ℕ} {used used′ : ℕ → Type 0} {lab lab′ : �
   mid-label h u = put-other lab x l h (not-x h u)
 
   first : Entered f mid used mid-used lab mid-lab s x l
-  first = record {
-    x-step = enter-x f s x;
-    led = λ h u e. enter-led f s x h (not-x h u) e;
-    other-step = λ h u n. enter-other f s x h (not-x h u) n;
-    in-use = λ h u. u;
-    x-in-use = inl refl;
-    still-in-use = λ h u. inr u;
-    x-label = put-same lab x l;
-    other-label = mid-label;
-    at = c .at-x;
-    fresh = c .fresh-x;
-  }
+  first = entered-alone s x l (c .x-new) (c .at-x) (c .fresh-x)
 
   -- y does not come in just before what follows x
   x-not-led : (o : Option ℕ) → s ≡ o → t ≡ Some (valueOr o x) → ⊥
@@ -182,3 +189,71 @@ module _ {f f′ : ℕ → ℕ} {used used′ : ℕ → Type 0} {lab lab′ : �
 
   pub enter-two-keeps : Rings f′ used′ lab′
   enter-two-keeps = enter-keeps (enter-keeps r first) second
+
+-- x and then y come in just before the target t on the ring l, or are the ring l
+pub record EnteredPair (f f′ : ℕ → ℕ) (used used′ : ℕ → Type 0) (lab lab′ : ℕ → ℕ) (t : Option ℕ) (x y l : ℕ) : Type 0 where
+  pub y-new : used y → ⊥
+  pub x-step : f′ x ≡ y
+  pub y-step : f′ y ≡ valueOr t x
+  pub led : (h : ℕ) → used h → t ≡ Some (f h) → f′ h ≡ x
+  pub other-step : (h : ℕ) → used h → t ≢ Some (f h) → f′ h ≡ f h
+  pub in-use : (h : ℕ) → used′ h → (h ≡ x) ⊎ ((h ≡ y) ⊎ used h)
+  pub x-in-use : used′ x
+  pub y-in-use : used′ y
+  pub still-in-use : (h : ℕ) → used h → used′ h
+  pub x-label : lab′ x ≡ l
+  pub y-label : lab′ y ≡ l
+  pub other-label : (h : ℕ) → used h → lab′ h ≡ lab h
+  pub at : (a : ℕ) → t ≡ Some a → used a × (lab a ≡ l)
+  pub fresh : t ≡ None → (h : ℕ) → used h → lab h ≢ l
+
+module _ {f f′ : ℕ → ℕ} {used used′ : ℕ → Type 0} {lab lab′ : ℕ → ℕ} {t : Option ℕ} {x y l : ℕ} (r : Rings f used lab) (c : EnteredPair f f′ used used′ lab lab′ t x y l) where
+  -- with y in alone
+  abbrev with-y : ℕ → ℕ
+  with-y = enter f t y
+
+  not-y : (h : ℕ) → used h → h ≢ y
+  not-y h u e = c .y-new (subst used e u)
+
+  -- what y leads to then, by the target
+  y-led : (o : Option ℕ) → t ≡ o → with-y y ≡ y → f′ y ≡ x
+  y-led None e q = c .y-step ∙ ap (λ i. valueOr i x) e
+  y-led (Some a) e q = absurd (not-y a (c .at a e .0) (sym (enter-x f t y ∙ ap (λ i. valueOr i y) e) ∙ q))
+
+  y-on : (o : Option ℕ) → t ≡ o → with-y y ≢ y → f′ y ≡ with-y y
+  y-on None e n = absurd (n (enter-x f t y ∙ ap (λ i. valueOr i y) e))
+  y-on (Some a) e n = c .y-step ∙ ap (λ i. valueOr i x) e ∙ sym (enter-x f t y ∙ ap (λ i. valueOr i y) e)
+
+  led-on : (h : ℕ) → (h ≡ y) ⊎ used h → with-y h ≡ y → f′ h ≡ x
+  led-on h (inl e) q = ap f′ e ∙ y-led t refl (ap with-y (sym e) ∙ q)
+  led-on h (inr u) q = elim (target? t (f h)) [
+    | yes e ↦ c .led h u e
+    | no n ↦ absurd (not-y (f h) (r .closed h u) (sym (enter-other f t y h (not-y h u) n) ∙ q))
+  ]
+
+  not-led : (h : ℕ) → (h ≡ y) ⊎ used h → with-y h ≢ y → f′ h ≡ with-y h
+  not-led h (inl e) n = ap f′ e ∙ y-on t refl (λ q. n (ap with-y e ∙ q)) ∙ ap with-y (sym e)
+  not-led h (inr u) n = elim (target? t (f h)) [
+    | yes e ↦ absurd (n (enter-led f t y h (not-y h u) e))
+    | no m ↦ c .other-step h u m ∙ sym (enter-other f t y h (not-y h u) m)
+  ]
+
+  x-before-y : Entered with-y f′ (λ h. (h ≡ y) ⊎ used h) used′ (put lab y l) lab′ (Some y) x l
+  x-before-y = record {
+    x-step = c .x-step;
+    led = λ h u e. led-on h u (sym (some-same refl e));
+    other-step = λ h u n. not-led h u (λ q. n (ap Some (sym q)));
+    in-use = c .in-use;
+    x-in-use = c .x-in-use;
+    still-in-use = λ h u. elim u [ inl e ↦ subst used′ (sym e) (c .y-in-use) | inr v ↦ c .still-in-use h v ];
+    x-label = c .x-label;
+    other-label = λ h u. elim u [
+      | inl e ↦ ap lab′ e ∙ c .y-label ∙ sym (put-same lab y l) ∙ ap (put lab y l) (sym e)
+      | inr v ↦ c .other-label h v ∙ sym (put-other lab y l h (not-y h v))
+    ];
+    at = λ a e. let q = some-same refl e in (inl (sym q), ap (put lab y l) (sym q) ∙ put-same lab y l);
+    fresh = λ e. absurd (none-not-some e refl);
+  }
+
+  pub enter-pair-keeps : Rings f′ used′ lab′
+  enter-pair-keeps = enter-keeps (enter-keeps r (entered-alone t y l (c .y-new) (c .at) (c .fresh))) x-before-y
