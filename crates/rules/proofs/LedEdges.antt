@@ -21,31 +21,31 @@ abbrev pub led-to : List (Option Edge) → Option ℕ → ℕ → List (Option E
 led-to es None x = es
 led-to es (Some a) x = led-in es a x
 
-led-to-used : (es : List (Option Edge)) (t : Option ℕ) (x m : ℕ) → used (led-to es t x) m ≡ used es m
+pub led-to-used : (es : List (Option Edge)) (t : Option ℕ) (x m : ℕ) → used (led-to es t x) m ≡ used es m
 led-to-used es None x m = refl
 led-to-used es (Some a) x m = used-map (led-edge a x) es m
 
-led-to-length : (es : List (Option Edge)) (t : Option ℕ) (x : ℕ) → length (led-to es t x) ≡ length es
+pub led-to-length : (es : List (Option Edge)) (t : Option ℕ) (x : ℕ) → length (led-to es t x) ≡ length es
 led-to-length es None x = refl
 led-to-length es (Some a) x = length-mapped (led-edge a x) es
 
-led-to-count : (es : List (Option Edge)) (t : Option ℕ) (x : ℕ) → count (led-to es t x) ≡ count es
+pub led-to-count : (es : List (Option Edge)) (t : Option ℕ) (x : ℕ) → count (led-to es t x) ≡ count es
 led-to-count es None x = refl
 led-to-count es (Some a) x = count-map (led-edge a x) es
 
-led-to-start : (es : List (Option Edge)) (t : Option ℕ) (x h : ℕ) → half-in (led-to es t x) h .start ≡ half-in es h .start
+pub led-to-start : (es : List (Option Edge)) (t : Option ℕ) (x h : ℕ) → half-in (led-to es t x) h .start ≡ half-in es h .start
 led-to-start es None x h = refl
 led-to-start es (Some a) x h = led-start es a x h
 
-led-to-owner : (es : List (Option Edge)) (t : Option ℕ) (x h : ℕ) → half-in (led-to es t x) h .owner ≡ half-in es h .owner
+pub led-to-owner : (es : List (Option Edge)) (t : Option ℕ) (x h : ℕ) → half-in (led-to es t x) h .owner ≡ half-in es h .owner
 led-to-owner es None x h = refl
 led-to-owner es (Some a) x h = led-owner es a x h
 
-led-to-hit : (es : List (Option Edge)) (t : Option ℕ) (x h : ℕ) → Has es (h / 2) → t ≡ Some (half-in es h .next) → half-in (led-to es t x) h .next ≡ x
+pub led-to-hit : (es : List (Option Edge)) (t : Option ℕ) (x h : ℕ) → Has es (h / 2) → t ≡ Some (half-in es h .next) → half-in (led-to es t x) h .next ≡ x
 led-to-hit es None x h u e = absurd (none-not-some refl e)
 led-to-hit es (Some a) x h u e = led-hit es a x h u (some-same e refl)
 
-led-to-miss : (es : List (Option Edge)) (t : Option ℕ) (x h : ℕ) → Has es (h / 2) → t ≢ Some (half-in es h .next) → half-in (led-to es t x) h .next ≡ half-in es h .next
+pub led-to-miss : (es : List (Option Edge)) (t : Option ℕ) (x h : ℕ) → Has es (h / 2) → t ≢ Some (half-in es h .next) → half-in (led-to es t x) h .next ≡ half-in es h .next
 led-to-miss es None x h u n = refl
 led-to-miss es (Some a) x h u n = led-miss es a x h u (λ e. n (ap Some (sym e)))
 

@@ -17,12 +17,12 @@ use Rattle.boundary.specs.Refusals.{mev-refusal}
 use Rattle.rules.specs.Rules.{Has, Used, Sound}
 use Rattle.rules.specs.RingLaws.{leads-to, once, RingOf, At, at-half-edge, at-lone, Else, MevLaw}
 use Rattle.rules.proofs.Halves.{new-even, new-odd}
-use Rattle.rules.proofs.OneEdgeMore.{NewEdge}
-use Rattle.rules.proofs.MevBefore.{next-even, next-odd, next-hit, next-miss, new-edge-is}
-use Rattle.rules.proofs.MevLone.{next-even as lone-even, next-odd as lone-odd, next-old, new-edge-is as lone-edge-is, row-other}
+use Rattle.rules.proofs.OneEdgeMore.{NewEdge, next-even, next-odd, next-hit, next-miss, new-edge-is}
 use Rattle.rules.proofs.Mev.{mev-free}
 use Rattle.rules.proofs.RingLists.{in-none, in-first, in-rest, in-cases, in-not-first, leads-led, Kept, ring-kept}
 use Rattle.rules.proofs.Accepted.{half-place, lone-place, lone-loop}
+use Rattle.rules.proofs.Fields.{lone-other-row}
+use Rattle.rules.proofs.Rows.{none-not-some, some-same}
 
 -- the half-edges of c are those of b and the two of the edge k, on the loop l
 module _ (b c : Boundary) (k w v l : ℕ) (new : NewEdge b (c .edges) k w v l) where
@@ -78,20 +78,17 @@ module _ (b c : Boundary) (k w v l : ℕ) (new : NewEdge b (c .edges) k w v l) w
 
 -- at a half-edge
 module _ (b : Boundary) (h k v : ℕ) (p : Point) (s : Sound b) (k-small : k < 192) (k-free : Has (b .edges) k → ⊥) (l : ℕ) (hs : List ℕ) (r : RingOf b l (h ∷ hs)) where
-  h-used : Used b h
-  h-used = r .only h (in-first h hs) .0
-
   on-l : owner b h ≡ l
   on-l = r .only h (in-first h hs) .1
 
   new-here : NewEdge b (mev-before b h k v p .edges) k (start b h) v l
-  new-here = subst (NewEdge b (mev-before b h k v p .edges) k (start b h) v) on-l (new-edge-is b h k v s h-used k-small k-free)
+  new-here = subst (NewEdge b (mev-before b h k v p .edges) k (start b h) v) on-l (new-edge-is b k (start b h) v (owner b h) (Some h) s k-small k-free)
 
   before-ring : RingOf (mev-before b h k v p) l (2 * k ∷ (2 * k + 1) ∷ h ∷ hs)
-  before-ring = grown-ring b (mev-before b h k v p) k (start b h) v l new-here (h ∷ hs) k-free (r .distinct) (r .only) (r .whole) (next-even b h k v s h-used k-small k-free, (next-odd b h k v s h-used k-small k-free, round-on))
+  before-ring = grown-ring b (mev-before b h k v p) k (start b h) v l new-here (h ∷ hs) k-free (r .distinct) (r .only) (r .whole) (next-even b k (start b h) v (owner b h) (Some h) s k-small k-free, (next-odd b k (start b h) v (owner b h) (Some h) s k-small k-free, round-on))
     where
       round-on : leads-to (next (mev-before b h k v p)) (h ∷ hs) (2 * k)
-      round-on = leads-led (next b) (next (mev-before b h k v p)) h hs h (2 * k) (r .distinct .0) (λ j i ne. next-miss b h k v s h-used k-small k-free j (r .only j i .0) ne) (λ j i e. next-hit b h k v s h-used k-small k-free j (r .only j i .0) e) (r .round)
+      round-on = leads-led (next b) (next (mev-before b h k v p)) h hs h (2 * k) (r .distinct .0) (λ j i ne. next-miss b k (start b h) v (owner b h) (Some h) s k-small k-free j (r .only j i .0) (λ d. ne (sym (some-same refl d)))) (λ j i e. next-hit b k (start b h) v (owner b h) (Some h) s k-small k-free j (r .only j i .0) (ap Some (sym e))) (r .round)
 
   before-else : Else b (mev-before b h k v p) (l ∷ [])
   before-else = record {
@@ -100,20 +97,20 @@ module _ (b : Boundary) (h k v : ℕ) (p : Point) (s : Sound b) (k-small : k < 1
   }
     where
       stays : (m : ℕ) → m ≢ l → (j : ℕ) → Used b j → owner b j ≡ m → next (mev-before b h k v p) j ≡ next b j
-      stays m ne j u e = next-miss b h k v s h-used k-small k-free j u (λ d. ne (sym e ∙ sym (s .loops .stays j u) ∙ ap (owner b) d ∙ on-l))
+      stays m ne j u e = next-miss b k (start b h) v (owner b h) (Some h) s k-small k-free j u (λ d. ne (sym e ∙ sym (s .loops .stays j u) ∙ ap (owner b) (sym (some-same refl d)) ∙ on-l))
 
 -- at a lone vertex
 module _ (b : Boundary) (l k v : ℕ) (p : Point) (s : Sound b) (k-small : k < 192) (k-free : Has (b .edges) k → ⊥) (is-lone : lone b l ≡ Some (valueOr (lone b l) 0)) where
   new-alone : NewEdge b (mev-lone b l k v p .edges) k (valueOr (lone b l) 0) v l
-  new-alone = lone-edge-is b l k v (valueOr (lone b l) 0) s is-lone k-small k-free
+  new-alone = new-edge-is b k (valueOr (lone b l) 0) v l None s k-small k-free
 
   lone-ring : RingOf (mev-lone b l k v p) l (2 * k ∷ (2 * k + 1) ∷ [])
-  lone-ring = grown-ring b (mev-lone b l k v p) k (valueOr (lone b l) 0) v l new-alone [] k-free tt (λ j i. absurd (in-none j i)) (λ j u e. absurd (s .lone .lone-alone l (valueOr (lone b l) 0) j is-lone u e)) (lone-even b l k v (valueOr (lone b l) 0) s is-lone k-small k-free, lone-odd b l k v (valueOr (lone b l) 0) s is-lone k-small k-free)
+  lone-ring = grown-ring b (mev-lone b l k v p) k (valueOr (lone b l) 0) v l new-alone [] k-free tt (λ j i. absurd (in-none j i)) (λ j u e. absurd (s .lone .lone-alone l (valueOr (lone b l) 0) j is-lone u e)) (next-even b k (valueOr (lone b l) 0) v l None s k-small k-free, next-odd b k (valueOr (lone b l) 0) v l None s k-small k-free)
 
   lone-else : Else b (mev-lone b l k v p) (l ∷ [])
   lone-else = record {
-    rings = λ m js n. ring-kept b (mev-lone b l k v p) m js (others-kept b (mev-lone b l k v p) k (valueOr (lone b l) 0) v l new-alone m (in-not-first l m [] n) (λ j u e. next-old b l k v (valueOr (lone b l) 0) s is-lone k-small k-free j u));
-    lones = λ m n. ap lone-of (row-other b l k v (valueOr (lone b l) 0) s is-lone k-small k-free m (in-not-first l m [] n));
+    rings = λ m js n. ring-kept b (mev-lone b l k v p) m js (others-kept b (mev-lone b l k v p) k (valueOr (lone b l) 0) v l new-alone m (in-not-first l m [] n) (λ j u e. next-miss b k (valueOr (lone b l) 0) v l None s k-small k-free j u (none-not-some refl)));
+    lones = λ m n. ap lone-of (lone-other-row (b .loops) l None m (in-not-first l m [] n));
   }
 
 -- which of the two the operator is

@@ -19,10 +19,13 @@ use Rattle.rings.specs.Rings.{Rings}
 use Rattle.rules.specs.Rules.{Has, Used, turn, Sizes, Named, LoneVertices, Outer, OneShell, Balanced, Sound}
 use Rattle.rules.proofs.Rows.{has-apart, has-put-same, has-put-other-in, has-put-cases, length-put, none-not-some}
 use Rattle.rules.proofs.Counts.{count-put-free}
-use Rattle.rules.proofs.Halves.{mate-of-even, mate-of-odd, used-mate, new-odd, new-even}
+use Rattle.rules.proofs.Halves.{mate-of-even, mate-of-odd, used-mate, new-odd, new-even, new-edge, put-even, put-odd, half-put-other, put-used-even, put-used-odd, put-used-in, put-used-cases}
 use Rattle.rules.proofs.RulesAsRings.{loop-rings-by, vertex-rings-by, continues-by, HasHalf, Placed, loop-rings, vertex-rings}
 use Rattle.rules.proofs.RingsEntered.{enter-pair-keeps, enter-two-keeps}
 use Rattle.std.specs.Options.{valueOr}
+use lib.Dec.{T}
+use Rattle.boundary.specs.Operators.{half-edge, edge}
+use Rattle.rules.proofs.LedEdges.{led-to, led-to-used, led-to-length, led-to-count, led-to-start, led-to-owner, led-to-hit, led-to-miss}
 
 abbrev pub grown : Boundary → List (Option Loop) → List (Option Edge) → ℕ → Point → Boundary
 grown b ls es v p = record { shells = b .shells; faces = b .faces; loops = ls; edges = es; vertices = set (b .vertices) v (Some p); handles = b .handles }
@@ -191,48 +194,105 @@ module _ (b : Boundary) (ls : List (Option Loop)) (es : List (Option Edge)) (k w
     balanced = grown-balanced;
   }
 
--- the rings then, where 2k and 2k + 1 come in just before the target t at w, or t is none and w was lone on l
-module _ (b : Boundary) (es : List (Option Edge)) (k w v l : ℕ) (t : Option ℕ) (s : Sound b) (e : NewEdge b es k w v l) (k-free : Has (b .edges) k → ⊥)
-    (next-even : half-in es (2 * k) .next ≡ 2 * k + 1) (next-odd : half-in es (2 * k + 1) .next ≡ valueOr t (2 * k))
-    (hit : (j : ℕ) → Used b j → t ≡ Some (next b j) → half-in es j .next ≡ 2 * k) (miss : (j : ℕ) → Used b j → t ≢ Some (next b j) → half-in es j .next ≡ next b j)
-    (at : (a : ℕ) → t ≡ Some a → Used b a × (owner b a ≡ l) × (start b a ≡ w)) (alone : t ≡ None → lone b l ≡ Some w) where
-  pub loops-more : Rings (λ j. half-in es j .next) (λ j. Has es (j / 2)) (λ j. half-in es j .owner)
-  loops-more = enter-pair-keeps (loop-rings b s) (record {
-    y-new = λ u. new-odd (b .edges) k (2 * k + 1) k-free u refl;
-    x-step = next-even;
-    y-step = next-odd;
-    led = hit;
-    other-step = miss;
-    in-use = e .used-cases;
-    x-in-use = e .used-even;
-    y-in-use = e .used-odd;
-    still-in-use = e .used-in;
-    x-label = e .owner-even;
-    y-label = e .owner-odd;
-    other-label = e .owner-old;
-    at = λ a q. (at a q .0, at a q .1);
-    fresh = λ q j u. s .lone .lone-alone l w j (alone q) u;
-  })
+-- the edge k from w to the new vertex v, which comes in just before the target t on the loop l, or is the ring of l
+abbrev pub edge-more : ℕ → ℕ → ℕ → ℕ → Option ℕ → Edge
+edge-more k w v l t = edge (half-edge w (2 * k + 1) l) (half-edge v (valueOr t (2 * k)) l)
 
-  pub vertices-more : Has (b .vertices) w → (Has (b .vertices) v → ⊥) → Rings (λ j. half-in es (mate j) .next) (λ j. Has es (j / 2)) (λ j. half-in es j .start)
-  vertices-more w-used v-free = enter-two-keeps {s = t} {t = None} (vertex-rings b s) (record {
-    x-new = λ u. new-even (b .edges) k (2 * k) k-free u refl;
-    x-step = ap (λ j. half-in es j .next) (mate-of-even k) ∙ next-odd;
-    y-step = ap (λ j. half-in es j .next) (mate-of-odd k) ∙ next-even;
-    led-x = λ j u q. hit (mate j) (used-mate b j u) q;
-    led-y = λ j u q. absurd (none-not-some refl q);
-    other-step = λ j u n o. miss (mate j) (used-mate b j u) n;
-    in-use = e .used-cases;
-    x-in-use = e .used-even;
-    y-in-use = e .used-odd;
-    still-in-use = e .used-in;
-    x-label = e .start-even;
-    y-label = e .start-odd;
-    other-label = e .start-old;
-    at-x = λ a q. (at a q .0, at a q .2);
-    at-y = λ a q. absurd (none-not-some refl q);
-    fresh-x = λ q j u. s .lone .not-both l w j (alone q) u;
-    fresh-y = λ q j u. has-apart (b .vertices) (start b j) v (s .named .start-used j u) v-free;
-    apart = λ a p q. none-not-some refl q;
-    two-rings = λ q. has-apart (b .vertices) w v w-used v-free;
-  })
+abbrev pub edges-more : Boundary → ℕ → ℕ → ℕ → ℕ → Option ℕ → List (Option Edge)
+edges-more b k w v l t = set (led-to (b .edges) t (2 * k)) k (Some (edge-more k w v l t))
+
+module _ (b : Boundary) (k w v l : ℕ) (t : Option ℕ) (s : Sound b) (k-small : k < 192) (k-free : Has (b .edges) k → ⊥) where
+  abbrev led-es : List (Option Edge)
+  led-es = led-to (b .edges) t (2 * k)
+
+  abbrev es : List (Option Edge)
+  es = edges-more b k w v l t
+
+  k-below : k < length led-es
+  k-below = let z = s .sizes .edges in omega (arith, led-to-length (b .edges) t (2 * k))
+
+  was-edge : (m : ℕ) → Has led-es m → Has (b .edges) m
+  was-edge m u = subst T (led-to-used (b .edges) t (2 * k) m) u
+
+  old-half : (j : ℕ) → Used b j → half-in es j ≡ half-in led-es j
+  old-half j u = half-put-other led-es k j _ (new-edge (b .edges) k j k-free u)
+
+  even-half : half-in es (2 * k) ≡ half-edge w (2 * k + 1) l
+  even-half = put-even led-es k (edge-more k w v l t) k-below
+
+  odd-half : half-in es (2 * k + 1) ≡ half-edge v (valueOr t (2 * k)) l
+  odd-half = put-odd led-es k (edge-more k w v l t) k-below
+
+  pub next-even : half-in es (2 * k) .next ≡ 2 * k + 1
+  next-even = ap (λ x. x .next) even-half
+
+  pub next-odd : half-in es (2 * k + 1) .next ≡ valueOr t (2 * k)
+  next-odd = ap (λ x. x .next) odd-half
+
+  pub next-hit : (j : ℕ) → Used b j → t ≡ Some (next b j) → half-in es j .next ≡ 2 * k
+  next-hit j u e = ap (λ x. x .next) (old-half j u) ∙ led-to-hit (b .edges) t (2 * k) j u e
+
+  pub next-miss : (j : ℕ) → Used b j → t ≢ Some (next b j) → half-in es j .next ≡ next b j
+  next-miss j u n = ap (λ x. x .next) (old-half j u) ∙ led-to-miss (b .edges) t (2 * k) j u n
+
+  pub new-edge-is : NewEdge b es k w v l
+  new-edge-is = record {
+    size = length-put led-es k _ ∙ led-to-length (b .edges) t (2 * k);
+    counted = count-put-free led-es k (edge-more k w v l t) k-below (λ u. k-free (was-edge k u)) ∙ ap (λ n. n + 1) (led-to-count (b .edges) t (2 * k));
+    used-in = λ j u. put-used-in led-es k j (edge-more k w v l t) (subst T (sym (led-to-used (b .edges) t (2 * k) (j / 2))) u);
+    used-cases = λ j u. elim (put-used-cases led-es k j (edge-more k w v l t) u) [
+      | inl e ↦ inl e
+      | inr more ↦ elim more [ inl e ↦ inr (inl e) | inr x ↦ inr (inr (was-edge (j / 2) x)) ]
+    ];
+    used-even = put-used-even led-es k (edge-more k w v l t) k-below;
+    used-odd = put-used-odd led-es k (edge-more k w v l t) k-below;
+    start-old = λ j u. ap (λ x. x .start) (old-half j u) ∙ led-to-start (b .edges) t (2 * k) j;
+    start-even = ap (λ x. x .start) even-half;
+    start-odd = ap (λ x. x .start) odd-half;
+    owner-old = λ j u. ap (λ x. x .owner) (old-half j u) ∙ led-to-owner (b .edges) t (2 * k) j;
+    owner-even = ap (λ x. x .owner) even-half;
+    owner-odd = ap (λ x. x .owner) odd-half;
+  }
+
+  -- the rings then, where t is at w, or is none and w was lone on l
+  module _ (at : (a : ℕ) → t ≡ Some a → Used b a × (owner b a ≡ l) × (start b a ≡ w)) (alone : t ≡ None → lone b l ≡ Some w) where
+    pub loops-more : Rings (λ j. half-in es j .next) (λ j. Has es (j / 2)) (λ j. half-in es j .owner)
+    loops-more = enter-pair-keeps (loop-rings b s) (record {
+      y-new = λ u. new-odd (b .edges) k (2 * k + 1) k-free u refl;
+      x-step = next-even;
+      y-step = next-odd;
+      led = next-hit;
+      other-step = next-miss;
+      in-use = new-edge-is .used-cases;
+      x-in-use = new-edge-is .used-even;
+      y-in-use = new-edge-is .used-odd;
+      still-in-use = new-edge-is .used-in;
+      x-label = new-edge-is .owner-even;
+      y-label = new-edge-is .owner-odd;
+      other-label = new-edge-is .owner-old;
+      at = λ a q. (at a q .0, at a q .1);
+      fresh = λ q j u. s .lone .lone-alone l w j (alone q) u;
+    })
+
+    pub vertices-more : Has (b .vertices) w → (Has (b .vertices) v → ⊥) → Rings (λ j. half-in es (mate j) .next) (λ j. Has es (j / 2)) (λ j. half-in es j .start)
+    vertices-more w-used v-free = enter-two-keeps {s = t} {t = None} (vertex-rings b s) (record {
+      x-new = λ u. new-even (b .edges) k (2 * k) k-free u refl;
+      x-step = ap (λ j. half-in es j .next) (mate-of-even k) ∙ next-odd;
+      y-step = ap (λ j. half-in es j .next) (mate-of-odd k) ∙ next-even;
+      led-x = λ j u q. next-hit (mate j) (used-mate b j u) q;
+      led-y = λ j u q. absurd (none-not-some refl q);
+      other-step = λ j u n o. next-miss (mate j) (used-mate b j u) n;
+      in-use = new-edge-is .used-cases;
+      x-in-use = new-edge-is .used-even;
+      y-in-use = new-edge-is .used-odd;
+      still-in-use = new-edge-is .used-in;
+      x-label = new-edge-is .start-even;
+      y-label = new-edge-is .start-odd;
+      other-label = new-edge-is .start-old;
+      at-x = λ a q. (at a q .0, at a q .2);
+      at-y = λ a q. absurd (none-not-some refl q);
+      fresh-x = λ q j u. s .lone .not-both l w j (alone q) u;
+      fresh-y = λ q j u. has-apart (b .vertices) (start b j) v (s .named .start-used j u) v-free;
+      apart = λ a p q. none-not-some refl q;
+      two-rings = λ q. has-apart (b .vertices) w v w-used v-free;
+    })

@@ -16,7 +16,7 @@ use Rattle.boundary.specs.declared.Point.{Point}
 use Rattle.boundary.specs.declared.HalfEdge.{HalfEdge}
 use Rattle.boundary.specs.declared.Edge.{Edge}
 use Rattle.boundary.specs.declared.Boundary.{Boundary}
-use Rattle.boundary.specs.Tables.{row, side, half-in, start, next, mate, lone, lone-of, face-of, shell-of, outer-of, in-shell, is-half-place}
+use Rattle.boundary.specs.Tables.{row, side, half-in, start, next, mate, lone, lone-of, face-of, shell-of, outer-of, in-shell, is-half-place, owner}
 use Rattle.boundary.specs.Changes.{clear-shell, clear-face, clear-loop, clear-vertex, clear-edge, emptied, led, led-half, led-edge, led-in}
 use Rattle.boundary.specs.Operators.{face-in, kvfs, mvfs, kev, mev, mev-before, mev-lone}
 use Rattle.boundary.specs.Refusals.{mvfs-refusal, mev-refusal}
@@ -25,10 +25,11 @@ use Rattle.rules.proofs.Rows.{no-row, row-has, lone-has, row-put-same, row-put
 use Rattle.rules.proofs.Counts.{part-counted, first-part-in}
 use Rattle.rules.proofs.Halves.{half-of-even, half-even, half-odd, mate-of-even, new-even, half-of-odd}
 use Rattle.rules.proofs.Mev.{Free, mev-free, mev-at-half, mev-at-lone}
-use Rattle.rules.proofs.MevBefore.{before-edges, next-odd as before-next-odd, new-edge-is as before-new-edge}
-use Rattle.rules.proofs.MevLone.{ring-edges, bare-loops, next-odd as lone-next-odd, new-edge-is as lone-new-edge}
+use Rattle.rules.proofs.MevBefore.{before-edges}
+use Rattle.rules.proofs.MevLone.{ring-edges, bare-loops}
 use Rattle.rules.proofs.Mvfs.{Fresh, fresh}
 use Rattle.rules.proofs.Fields.{lone-row, loop-row}
+use Rattle.rules.proofs.OneEdgeMore.{next-odd, new-edge-is}
 
 -- a table that differs from t at k alone is t again once its row k is
 pub put-back : {X : Type 0} (t z : List (Option X)) (k : ℕ) (r : Option X) → length z ≡ length t → row t k ≡ r → ((i : ℕ) → i ≢ k → row z i ≡ row t i) → set z k r ≡ t
@@ -126,10 +127,10 @@ module _ (b : Boundary) (h k v : ℕ) (p : Point) (s : Sound b) (h-used : Used b
   c = mev-before b h k v p
 
   after-odd : next c (mate (2 * k)) ≡ h
-  after-odd = ap (next c) (mate-of-even k) ∙ before-next-odd b h k v s h-used k-small (rows .edge)
+  after-odd = ap (next c) (mate-of-even k) ∙ next-odd b k (start b h) v (owner b h) (Some h) s k-small (rows .edge)
 
   start-odd : start c (mate (2 * k)) ≡ v
-  start-odd = ap (start c) (mate-of-even k) ∙ before-new-edge b h k v s h-used k-small (rows .edge) .start-odd
+  start-odd = ap (start c) (mate-of-even k) ∙ new-edge-is b k (start b h) v (owner b h) (Some h) s k-small (rows .edge) .start-odd
 
   not-emptied : eqb (next c (mate (2 * k))) (2 * k) ≡ false
   not-emptied = ne-eqb (next c (mate (2 * k))) (2 * k) (λ e. new-even (b .edges) k h (rows .edge) h-used (sym after-odd ∙ e))
@@ -154,10 +155,10 @@ module _ (b : Boundary) (l k v w : ℕ) (p : Point) (s : Sound b) (w-lone : lone
   d = record { shells = b .shells; faces = b .faces; loops = bare-loops b l; edges = ring-edges b l k w v; vertices = set (b .vertices) v (Some p); handles = b .handles }
 
   after-odd-lone : next d (mate (2 * k)) ≡ 2 * k
-  after-odd-lone = ap (next d) (mate-of-even k) ∙ lone-next-odd b l k v w s w-lone k-small (rows .edge)
+  after-odd-lone = ap (next d) (mate-of-even k) ∙ next-odd b k w v l None s k-small (rows .edge)
 
   start-odd-lone : start d (mate (2 * k)) ≡ v
-  start-odd-lone = ap (start d) (mate-of-even k) ∙ lone-new-edge b l k v w s w-lone k-small (rows .edge) .start-odd
+  start-odd-lone = ap (start d) (mate-of-even k) ∙ new-edge-is b k w v l None s k-small (rows .edge) .start-odd
 
   ring-back : set (led-in (ring-edges b l k w v) (2 * k) (2 * k)) k None ≡ b .edges
   ring-back = put-back (b .edges) (led-in (ring-edges b l k w v) (2 * k) (2 * k)) k None (length-mapped (led-edge (2 * k) (2 * k)) (ring-edges b l k w v) ∙ length-put (b .edges) k _) (no-row (b .edges) k (rows .edge)) (λ i ne.
@@ -172,7 +173,7 @@ module _ (b : Boundary) (l k v w : ℕ) (p : Point) (s : Sound b) (w-lone : lone
       let ls = loops-back in
       let es = ring-back in
       let vs = put-clear (b .vertices) v p (rows .vertex) in
-      let new = lone-new-edge b l k v w s w-lone k-small (rows .edge) in
+      let new = new-edge-is b k w v l None s k-small (rows .edge) in
       kev-parts-same d (2 * k) (eq-eqb (next d (mate (2 * k))) (2 * k) after-odd-lone) after-odd-lone (new .owner-even) (new .start-even) (half-of-even k) start-odd-lone
       ∙ (λ i. record { shells = b .shells; faces = b .faces; loops = ls i; edges = es i; vertices = vs i; handles = b .handles })
 
