@@ -1,20 +1,19 @@
 -- What an accepted edit says: its numbers are in range, and the operator does not refuse it.
 use mathlib.Core.Path.{_≡_, sym, subst}
 use mathlib.Core.Logic.{_⊎_, inl, inr}
-use mathlib.Core.Bool.{true, _&&_, false}
-use Prim.Native.Nat.{ℕ, _<_, _≤_, _+_, _-_}
+use mathlib.Core.Bool.{true, _&&_}
+use Prim.Native.Nat.{ℕ, _<_, _≤_}
 use native.Mathlib.Omega.{arith}
 use lib.Dec.{T, ltb, leb}
 use lib.IntN.{ℤ, pos, negsuc}
 use Rattle.std.specs.declared.option.Option.the-variants.{None}
-use Rattle.std.proofs.shelf.Tests.{ltb-true, lt-ltb, leb-true, cond-true, or-cases, and-parts, le-ltb}
+use Rattle.std.proofs.shelf.Tests.{ltb-true, lt-ltb, leb-true, cond-true, or-cases, and-parts}
 use Rattle.boundary.specs.declared.Boundary.{Boundary}
 use Rattle.boundary.specs.declared.Edit.{Edit}
 use Rattle.boundary.specs.declared.Refusal.the-variants.{OutOfRange}
 use Rattle.boundary.specs.Operators.{named}
 use Rattle.boundary.specs.Refusals.{below, is-place, in-range, refusal-within, refusal}
 use Rattle.rules.proofs.Rows.{unless-none}
-use Rattle.boundary.specs.Tables.{is-half-place}
 
 pub accepted : (b : Boundary) (e : Edit) → refusal b e ≡ None → (in-range e ≡ true) × (refusal-within b e ≡ None)
 unfolding refusal
@@ -41,13 +40,3 @@ place-named (pos k) q = elim (or-cases (ltb k 384) (leb 512 k && ltb k 608) q) [
   where
     same : k < 65536 → named (pos k) ≡ k
     same small = cond-true (ltb k 65536) k 0 (lt-ltb k 65536 small)
-
--- which places are half-edges, and the loop of one that is not
-pub half-place : (a : ℕ) → a < 384 → is-half-place a ≡ true
-half-place a lt = lt-ltb a 512 (omega arith)
-
-pub lone-place : (a l : ℕ) → a ≡ 512 + l → is-half-place a ≡ false
-lone-place a l e = le-ltb a 512 (omega arith)
-
-pub lone-loop : (a l : ℕ) → a ≡ 512 + l → a - 512 ≡ l
-lone-loop a l e = omega arith

@@ -14,6 +14,7 @@ pub mod RingRuns
 pub mod RingsExist
 -- What several operators do alike.
 pub mod SameEdges
+pub mod Places
 pub mod OneEdgeMore
 pub mod ErasedEdge
 pub mod ErasedRings

@@ -3,19 +3,19 @@ use mathlib.Core.Path.{_≡_, refl, sym, ap, subst, _∙_}
 use mathlib.Core.Logic.{_≢_, _⊎_, inl, inr}
 use mathlib.Core.Bool.{Bool, true, false, cond, not, _&&_}
 use mathlib.Core.List.{List}
-use Prim.Native.Nat.{ℕ, _+_, _*_, _-_, _/_, _<_, _≤_}
+use Prim.Native.Nat.{ℕ, _+_, _*_, _/_, _<_, _≤_}
 use native.Mathlib.Decide.{ℕ-discrete}
 use native.Mathlib.Omega.{arith}
 use lib.Dec.{eqb}
 use lib.ListN.{length}
-use Rattle.std.specs.Options.{isSome, valueOr}
+use Rattle.std.specs.Options.{valueOr}
 use Rattle.std.specs.declared.option.Option.{Option}
 use Rattle.std.specs.declared.option.Option.the-variants.{None, Some}
 use Rattle.std.proofs.shelf.Tests.{eqb-true, and-parts}
 use Rattle.boundary.specs.declared.Refusal.the-variants.{Unused, Taken, Condition}
 use Rattle.boundary.specs.declared.Edge.{Edge}
 use Rattle.boundary.specs.declared.Boundary.{Boundary}
-use Rattle.boundary.specs.Tables.{row, used, half-in, half-used, start, next, owner, mate, lone, lone-of, face-of, outer-of, loop-face, face-shell, loop-shell, is-half-place, place-loop, place-vertex}
+use Rattle.boundary.specs.Tables.{row, half-in, start, next, owner, mate, lone, lone-of, face-of, outer-of, loop-face, face-shell, loop-shell, is-half-place, place-loop, place-vertex}
 use Rattle.boundary.specs.Changes.{with-edges, put-edge, put-lone, clear-loop, led, joined, joined-in}
 use Rattle.boundary.specs.Operators.{edge, half-edge, mekr}
 use Rattle.boundary.specs.Refusals.{free, place-used, has-vertex, are-joinable, mekr-refusal}
@@ -25,13 +25,14 @@ use Rattle.rings.specs.Euler.{put, swap}
 use Rattle.rings.proofs.Put.{put-same, put-other}
 use Rattle.rings.proofs.Swap.{join-keeps}
 use Rattle.rules.specs.Rules.{Has, Used, turn, Sizes, Named, LoneVertices, Outer, OneShell, Balanced, Sound}
-use Rattle.rules.proofs.Rows.{some-value, true-T, not-eqb, unless-none, free-not-has, row-put-other, length-put, has-clear-in, has-clear-out, lone-has, none-not-some, some-same}
+use Rattle.rules.proofs.Rows.{not-eqb, unless-none, free-not-has, row-put-other, length-put, has-clear-in, has-clear-out, lone-has, none-not-some}
 use Rattle.rules.proofs.Counts.{count-put-free, count-clear}
 use Rattle.rules.proofs.Halves.{half-of-even, mate-of-even, mate-of-odd, used-mate, new-edge, new-even, new-odd, put-even, put-odd, half-put-other, put-used-even, put-used-odd, put-used-in, put-used-cases, joined-hit, joined-miss}
 use Rattle.rules.proofs.RulesAsRings.{loop-rings, vertex-rings, loop-rings-by, vertex-rings-by, continues-by, HasHalf, Placed}
 use Rattle.rules.proofs.RingsEntered.{EnteredTwo, enter-two-keeps}
 use Rattle.rules.proofs.LedEdges.{Alike, joined-alike, led-twice, twice-has-in, twice-has-out, twice-length, twice-count, twice-start, twice-owner, twice-first, twice-second, twice-other}
 use Rattle.rules.proofs.Fields.{with-lone, lone-has-in, lone-has-out, lone-other-row, lone-face, lone-row, lone-length, lone-count}
+use Rattle.rules.proofs.Places.{target, Place, lone-is, vertex-apart, fresh-loop, fresh-vertex, place}
 
 -- the edges but the new one, where the ends have the targets p and q and lie on the loops l and m
 abbrev pub table : List (Option Edge) → Option ℕ → Option ℕ → ℕ → ℕ → ℕ → List (Option Edge)
@@ -41,9 +42,6 @@ table es p q l m k = led-twice (joined-in es m l) p (2 * k) q (2 * k + 1)
 abbrev pub linked : Boundary → Option ℕ → Option ℕ → ℕ → ℕ → ℕ → ℕ → ℕ → Boundary
 linked b p q l m v w k =
     clear-loop (put-lone (put-edge (with-edges b (table (b .edges) p q l m k)) k (edge (half-edge v (valueOr q (2 * k + 1)) l) (half-edge w (valueOr p (2 * k)) l))) l None) m
-
-abbrev pub target : Bool → ℕ → Option ℕ
-target c a = cond c (Some a) None
 
 -- the operator, where c and d say whether the ends are half-edges
 abbrev pub by-tests : Bool → Bool → Boundary → ℕ → ℕ → ℕ → ℕ → ℕ → ℕ → ℕ → Boundary
@@ -57,36 +55,6 @@ linked-is true true b x y l m v w k = refl
 linked-is true false b x y l m v w k = refl
 linked-is false true b x y l m v w k = refl
 linked-is false false b x y l m v w k = refl
-
--- an end of the edge: a half-edge on the loop l that starts at v, or the lone vertex v of l
-pub record Place (b : Boundary) (t : Option ℕ) (l v : ℕ) : Type 0 where
-  pub loop-used : Has (b .loops) l
-  pub vertex-used : Has (b .vertices) v
-  pub at : (a : ℕ) → t ≡ Some a → Used b a × (owner b a ≡ l) × (start b a ≡ v)
-  pub alone : t ≡ None → lone b l ≡ Some v
-
-module _ (b : Boundary) (s : Sound b) {t : Option ℕ} {l v : ℕ} (e : Place b t l v) where
-  -- by the target
-  lone-by : (w : ℕ) → lone b l ≡ Some w → (o : Option ℕ) → t ≡ o → w ≡ v
-  lone-by w q None d = some-same q (e .alone d)
-  lone-by w q (Some a) d = absurd (s .lone .lone-alone l w a q (e .at a d .0) (e .at a d .1))
-
-  apart-by : (n w : ℕ) → n ≢ l → lone b n ≡ Some w → (o : Option ℕ) → t ≡ o → v ≢ w
-  apart-by n w ne q None d = λ same. ne (s .lone .one-loop n l w q (e .alone d ∙ ap Some same))
-  apart-by n w ne q (Some a) d = λ same. s .lone .not-both n w a q (e .at a d .0) (e .at a d .2 ∙ same)
-
-  -- if the loop has a lone vertex it is the end's, and no other loop has it
-  lone-is : (w : ℕ) → lone b l ≡ Some w → w ≡ v
-  lone-is w q = lone-by w q t refl
-
-  vertex-apart : (n w : ℕ) → n ≢ l → lone b n ≡ Some w → v ≢ w
-  vertex-apart n w ne q = apart-by n w ne q t refl
-
-  fresh-loop : t ≡ None → (h : ℕ) → Used b h → owner b h ≢ l
-  fresh-loop d h u = s .lone .lone-alone l v h (e .alone d) u
-
-  fresh-vertex : t ≡ None → (h : ℕ) → Used b h → start b h ≢ v
-  fresh-vertex d h u = s .lone .not-both l v h (e .alone d) u
 
 -- two ends on two loops of one face, the second not its outer one
 pub record Linkable (b : Boundary) (p q : Option ℕ) (l m v w k : ℕ) : Type 0 where
@@ -502,30 +470,6 @@ module _ (b : Boundary) (p q : Option ℕ) (l m v w k : ℕ) (s : Sound b) (j : 
     one-shell = one-shell;
     balanced = balanced;
   }
-
--- a used half-edge, or the loop of a lone vertex, is a place
-at-half : (b : Boundary) → Sound b → (a : ℕ) → Used b a → Place b (Some a) (owner b a) (start b a)
-at-half b s a u = record {
-  loop-used = s .named .owner-used a u;
-  vertex-used = s .named .start-used a u;
-  at = λ c e. let same : a ≡ c = some-same refl e in (subst (Used b) same u, ap (owner b) (sym same), ap (start b) (sym same));
-  alone = λ e. absurd (none-not-some e refl);
-}
-
-at-lone : (b : Boundary) → Sound b → (l v : ℕ) → lone b l ≡ Some v → Place b None l v
-at-lone b s l v e = record {
-  loop-used = lone-has b l v e;
-  vertex-used = s .named .lone-used l v e;
-  at = λ c d. absurd (none-not-some refl d);
-  alone = λ d. e;
-}
-
-place-by : (b : Boundary) → Sound b → (a l : ℕ) (c : Bool) → cond c (half-used b a) (used (b .loops) l) ≡ true → cond c true (isSome (lone b l)) ≡ true → Place b (target c a) (cond c (owner b a) l) (cond c (start b a) (valueOr (lone b l) 0))
-place-by b s a l true u e = at-half b s a (true-T (half-used b a) u)
-place-by b s a l false u e = at-lone b s l (valueOr (lone b l) 0) (some-value (lone b l) (true-T (isSome (lone b l)) e))
-
-place : (b : Boundary) → Sound b → (a : ℕ) → place-used b a ≡ true → has-vertex b a ≡ true → Place b (target (is-half-place a) a) (place-loop b a) (place-vertex b a)
-place b s a u e = place-by b s a (a - 512) (is-half-place a) u e
 
 pub linkable : (b : Boundary) (a c k : ℕ) → Sound b → k < 192 → mekr-refusal b a c k ≡ None → Linkable b (target (is-half-place a) a) (target (is-half-place c) c) (place-loop b a) (place-loop b c) (place-vertex b a) (place-vertex b c) k
 linkable b a c k s lt r =

@@ -18,10 +18,10 @@ use Rattle.boundary.specs.Refusals.{mekr-refusal}
 use Rattle.rules.specs.Rules.{Used, Sound}
 use Rattle.rules.specs.RingLaws.{leads-to, once, RingOf, At, at-half-edge, at-lone, Else, MekrLaw}
 use Rattle.rules.proofs.Halves.{new-even, new-odd}
-use Rattle.rules.proofs.Mekr.{linked, target, linked-is, Linkable, linkable, x-used, y-used, used-in, used-out, x-owner, y-owner, x-next, y-next, owner-hit, owner-miss, led-x, led-y, next-is, owner-cases, loop-there}
+use Rattle.rules.proofs.Mekr.{linked, linked-is, Linkable, linkable, x-used, y-used, used-in, used-out, x-owner, y-owner, x-next, y-next, owner-hit, owner-miss, led-x, led-y, next-is, owner-cases, loop-there}
 use Rattle.rules.proofs.RingLists.{in-none, in-first, in-rest, in-cases, in-not-first, in-not-rest, in-left, in-right, in-parts, once-append, first-or, first-or-append, leads-more, leads-append, leads-led, Kept, ring-kept}
 use Rattle.rules.proofs.Rows.{some-same}
-use Rattle.rules.proofs.Accepted.{half-place, lone-place, lone-loop}
+use Rattle.rules.proofs.Places.{target, half-place, lone-place, lone-loop}
 
 pub record Strand (b : Boundary) (t : Option ℕ) (l : ℕ) (xs : List ℕ) : Type 0 where
   pub distinct : once xs

@@ -20,9 +20,9 @@ use Rattle.rules.proofs.Halves.{new-even, new-odd}
 use Rattle.rules.proofs.OneEdgeMore.{NewEdge, next-even, next-odd, next-hit, next-miss, new-edge-is}
 use Rattle.rules.proofs.Mev.{mev-free}
 use Rattle.rules.proofs.RingLists.{in-none, in-first, in-rest, in-cases, in-not-first, leads-led, Kept, ring-kept}
-use Rattle.rules.proofs.Accepted.{half-place, lone-place, lone-loop}
 use Rattle.rules.proofs.Fields.{lone-other-row}
 use Rattle.rules.proofs.Rows.{none-not-some, some-same}
+use Rattle.rules.proofs.Places.{half-place, lone-place, lone-loop}
 
 -- the half-edges of c are those of b and the two of the edge k, on the loop l
 module _ (b c : Boundary) (k w v l : ℕ) (new : NewEdge b (c .edges) k w v l) where

@@ -1,5 +1,5 @@
 -- The new edge k at a loop l with a lone vertex w: 2k and 2k + 1 become its ring, and the rules are kept.
-use mathlib.Core.Path.{_≡_, sym, ap, _∙_, refl}
+use mathlib.Core.Path.{_≡_, sym, ap, _∙_}
 use mathlib.Core.Logic.{_≢_, inl, inr}
 use mathlib.Core.List.{List}
 use Prim.Native.Nat.{ℕ, _<_}
@@ -10,11 +10,12 @@ use Rattle.boundary.specs.declared.Point.{Point}
 use Rattle.boundary.specs.declared.Edge.{Edge}
 use Rattle.boundary.specs.declared.Loop.{Loop}
 use Rattle.boundary.specs.declared.Boundary.{Boundary}
-use Rattle.boundary.specs.Tables.{row, start, owner, lone, lone-of}
-use Rattle.rules.specs.Rules.{Has, Used, Sound}
+use Rattle.boundary.specs.Tables.{row, lone, lone-of}
+use Rattle.rules.specs.Rules.{Has, Sound}
 use Rattle.rules.proofs.Rows.{none-not-some, some-same, lone-has}
 use Rattle.rules.proofs.OneEdgeMore.{LoopsFor, grown, grown-sound, loops-more, vertices-more, edges-more, new-edge-is}
 use Rattle.rules.proofs.Fields.{with-lone, lone-has-in, lone-has-out, lone-other-row, lone-face, lone-row, lone-length, lone-count}
+use Rattle.rules.proofs.Places.{at-lone}
 
 abbrev pub ring-edges : Boundary → ℕ → ℕ → ℕ → ℕ → List (Option Edge)
 ring-edges b l k w v = edges-more b k w v l None
@@ -59,10 +60,7 @@ module _ (b : Boundary) (l k v w : ℕ) (s : Sound b) (w-lone : lone b l ≡ Som
 
   pub lone-sound : (p : Point) → (Has (b .vertices) v → ⊥) → v < 128 → Sound (grown b (bare-loops b l) (ring-edges b l k w v) v p)
   lone-sound p v-free v-small =
-      let w-used = s .named .lone-used l w w-lone in
-      grown-sound b ls (ring-edges b l k w v) k w v l p s (new-edge-is b k w v l None s k-small k-free) loops-for w-used v-free v-small l-used
-      (loops-more b k w v l None s k-small k-free at-none (λ e. w-lone))
-      (vertices-more b k w v l None s k-small k-free at-none (λ e. w-lone) w-used v-free)
-    where
-      at-none : (a : ℕ) → None ≡ Some a → Used b a × (owner b a ≡ l) × (start b a ≡ w)
-      at-none a e = absurd (none-not-some refl e)
+      let here = at-lone b s l w w-lone in
+      grown-sound b ls (ring-edges b l k w v) k w v l p s (new-edge-is b k w v l None s k-small k-free) loops-for (here .vertex-used) v-free v-small l-used
+      (loops-more b k w v l None s k-small k-free here)
+      (vertices-more b k w v l None s k-small k-free here v-free)

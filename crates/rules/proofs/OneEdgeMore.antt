@@ -26,6 +26,7 @@ use Rattle.std.specs.Options.{valueOr}
 use lib.Dec.{T}
 use Rattle.boundary.specs.Operators.{half-edge, edge}
 use Rattle.rules.proofs.LedEdges.{led-to, led-to-used, led-to-length, led-to-count, led-to-start, led-to-owner, led-to-hit, led-to-miss}
+use Rattle.rules.proofs.Places.{Place, fresh-loop, fresh-vertex}
 
 abbrev pub grown : Boundary → List (Option Loop) → List (Option Edge) → ℕ → Point → Boundary
 grown b ls es v p = record { shells = b .shells; faces = b .faces; loops = ls; edges = es; vertices = set (b .vertices) v (Some p); handles = b .handles }
@@ -254,8 +255,8 @@ module _ (b : Boundary) (k w v l : ℕ) (t : Option ℕ) (s : Sound b) (k-small 
     owner-odd = ap (λ x. x .owner) odd-half;
   }
 
-  -- the rings then, where t is at w, or is none and w was lone on l
-  module _ (at : (a : ℕ) → t ≡ Some a → Used b a × (owner b a ≡ l) × (start b a ≡ w)) (alone : t ≡ None → lone b l ≡ Some w) where
+  -- the rings then
+  module _ (here : Place b t l w) where
     pub loops-more : Rings (λ j. half-in es j .next) (λ j. Has es (j / 2)) (λ j. half-in es j .owner)
     loops-more = enter-pair-keeps (loop-rings b s) (record {
       y-new = λ u. new-odd (b .edges) k (2 * k + 1) k-free u refl;
@@ -270,12 +271,12 @@ module _ (b : Boundary) (k w v l : ℕ) (t : Option ℕ) (s : Sound b) (k-small 
       x-label = new-edge-is .owner-even;
       y-label = new-edge-is .owner-odd;
       other-label = new-edge-is .owner-old;
-      at = λ a q. (at a q .0, at a q .1);
-      fresh = λ q j u. s .lone .lone-alone l w j (alone q) u;
+      at = λ a q. (here .at a q .0, here .at a q .1);
+      fresh = fresh-loop b s here;
     })
 
-    pub vertices-more : Has (b .vertices) w → (Has (b .vertices) v → ⊥) → Rings (λ j. half-in es (mate j) .next) (λ j. Has es (j / 2)) (λ j. half-in es j .start)
-    vertices-more w-used v-free = enter-two-keeps {s = t} {t = None} (vertex-rings b s) (record {
+    pub vertices-more : (Has (b .vertices) v → ⊥) → Rings (λ j. half-in es (mate j) .next) (λ j. Has es (j / 2)) (λ j. half-in es j .start)
+    vertices-more v-free = enter-two-keeps {s = t} {t = None} (vertex-rings b s) (record {
       x-new = λ u. new-even (b .edges) k (2 * k) k-free u refl;
       x-step = ap (λ j. half-in es j .next) (mate-of-even k) ∙ next-odd;
       y-step = ap (λ j. half-in es j .next) (mate-of-odd k) ∙ next-even;
@@ -289,10 +290,10 @@ module _ (b : Boundary) (k w v l : ℕ) (t : Option ℕ) (s : Sound b) (k-small 
       x-label = new-edge-is .start-even;
       y-label = new-edge-is .start-odd;
       other-label = new-edge-is .start-old;
-      at-x = λ a q. (at a q .0, at a q .2);
+      at-x = λ a q. (here .at a q .0, here .at a q .2);
       at-y = λ a q. absurd (none-not-some refl q);
-      fresh-x = λ q j u. s .lone .not-both l w j (alone q) u;
+      fresh-x = fresh-vertex b s here;
       fresh-y = λ q j u. has-apart (b .vertices) (start b j) v (s .named .start-used j u) v-free;
       apart = λ a p q. none-not-some refl q;
-      two-rings = λ q. has-apart (b .vertices) w v w-used v-free;
+      two-rings = λ q. has-apart (b .vertices) w v (here .vertex-used) v-free;
     })

@@ -28,17 +28,17 @@ use Rattle.rules.proofs.RulesAsRings.{loop-rings, half-below, owner-not-free, 
 use Rattle.rules.proofs.LedEdges.{Alike, joined-alike, twice-has-in, twice-has-out, twice-length, twice-start, twice-owner, twice-first, twice-second, twice-other}
 use Rattle.rules.proofs.ErasedEdge.{past-on, halves-apart, after-x, after-y}
 use Rattle.rules.proofs.Undo.{put-back, row-by-halves, same-half}
-use Rattle.rules.proofs.Accepted.{half-place, lone-place}
 use Rattle.rules.proofs.Kemr.{Asked, asked, Left, x-not-self, y-not-self, after-x-used, after-y-owner, after-x-on, after-y-off, on-owner, off-owner, was-owner, owner-was, plain, kemr-is, is-left}
-use Rattle.rules.proofs.Mekr.{target, table, linked, linked-is}
+use Rattle.rules.proofs.Mekr.{table, linked, linked-is}
 use Rattle.rules.proofs.Fields.{loop-row}
+use Rattle.rules.proofs.Places.{target, half-place, lone-place}
 
 -- the place a of a run that begins with n and ends before z: the half-edge n, or the loop l where the run is empty
-data Place (n z a l : ℕ) : Type 0 where
-  half : n ≢ z → a ≡ n → is-half-place a ≡ true → Place n z a l
-  empty : n ≡ z → a ≡ 512 + l → is-half-place a ≡ false → Place n z a l
+data RunPlace (n z a l : ℕ) : Type 0 where
+  half : n ≢ z → a ≡ n → is-half-place a ≡ true → RunPlace n z a l
+  empty : n ≡ z → a ≡ 512 + l → is-half-place a ≡ false → RunPlace n z a l
 
-place-is : (b : Boundary) (h x l : ℕ) → next b h < 384 → Place (next b h) x (run-place b h x l) l
+place-is : (b : Boundary) (h x l : ℕ) → next b h < 384 → RunPlace (next b h) x (run-place b h x l) l
 place-is b h x l small = elim (ℕ-discrete (next b h) x) [
   | yes e ↦
       let is : run-place b h x l ≡ 512 + l = cond-true (eqb (next b h) x) (512 + l) (next b h) (eq-eqb (next b h) x e) in
@@ -49,26 +49,26 @@ place-is b h x l small = elim (ℕ-discrete (next b h) x) [
 ]
 
 -- what a join reads at such a place
-place-loop-is : (d : Boundary) {n z a l : ℕ} → Place n z a l → (n ≢ z → owner d n ≡ l) → place-loop d a ≡ l
+place-loop-is : (d : Boundary) {n z a l : ℕ} → RunPlace n z a l → (n ≢ z → owner d n ≡ l) → place-loop d a ≡ l
 place-loop-is d {n} {z} {a} {l} (half ne e t) at = cond-true (is-half-place a) (owner d a) (a - 512) t ∙ ap (owner d) e ∙ at ne
 place-loop-is d {n} {z} {a} {l} (empty q e t) at = cond-false (is-half-place a) (owner d a) (a - 512) t ∙ omega arith
 
-place-vertex-is : (d : Boundary) (v : ℕ) {n z a l : ℕ} → Place n z a l → (n ≢ z → start d n ≡ v) → (n ≡ z → lone d l ≡ Some v) → place-vertex d a ≡ v
+place-vertex-is : (d : Boundary) (v : ℕ) {n z a l : ℕ} → RunPlace n z a l → (n ≢ z → start d n ≡ v) → (n ≡ z → lone d l ≡ Some v) → place-vertex d a ≡ v
 place-vertex-is d v {n} {z} {a} {l} (half ne e t) at there = cond-true (is-half-place a) (start d a) (valueOr (lone d (a - 512)) 0) t ∙ ap (start d) e ∙ at ne
 place-vertex-is d v {n} {z} {a} {l} (empty q e t) at there =
     let is : a - 512 ≡ l = omega arith in
     cond-false (is-half-place a) (start d a) (valueOr (lone d (a - 512)) 0) t ∙ ap (λ i. valueOr (lone d i) 0) is ∙ ap (λ o. valueOr o 0) (there q)
 
 -- the half-edge at such a place, if there is one
-target-is : {n z a l : ℕ} → Place n z a l → valueOr (target (is-half-place a) a) z ≡ n
+target-is : {n z a l : ℕ} → RunPlace n z a l → valueOr (target (is-half-place a) a) z ≡ n
 target-is {n} {z} {a} {l} (half ne e t) = ap (λ c. valueOr (target c a) z) t ∙ e
 target-is {n} {z} {a} {l} (empty q e t) = ap (λ c. valueOr (target c a) z) t ∙ sym q
 
-target-hit : {n z a l : ℕ} → Place n z a l → n ≢ z → target (is-half-place a) a ≡ Some n
+target-hit : {n z a l : ℕ} → RunPlace n z a l → n ≢ z → target (is-half-place a) a ≡ Some n
 target-hit {n} {z} {a} {l} (half ne e t) full = ap (λ c. target c a) t ∙ ap Some e
 target-hit {n} {z} {a} {l} (empty q e t) full = absurd (full q)
 
-target-miss : (m : ℕ) {n z a l : ℕ} → Place n z a l → (n ≢ z → m ≢ n) → target (is-half-place a) a ≢ Some m
+target-miss : (m : ℕ) {n z a l : ℕ} → RunPlace n z a l → (n ≢ z → m ≢ n) → target (is-half-place a) a ≢ Some m
 target-miss m {n} {z} {a} {l} (half ne e t) off s = off ne (sym (some-same (ap (λ c. target c a) t) s) ∙ e)
 target-miss m {n} {z} {a} {l} (empty q e t) off s = none-not-some (ap (λ c. target c a) t) s
 
@@ -86,7 +86,7 @@ linked-same d p q k el em ev ew = λ t. linked d p q (el t) (em t) (ev t) (ew t)
 
 -- d has of b what is left without the edge k, and a and c are the places of the two runs
 module _ (b d : Boundary) (k l a c : ℕ) (s : Sound b) (o : Asked b (2 * k) (2 * k + 1) l) (w : Left b d (2 * k) (2 * k + 1) l)
-    (at-a : Place (next b (2 * k + 1)) (2 * k) a (owner b (2 * k))) (at-c : Place (next b (2 * k)) (2 * k + 1) c l) where
+    (at-a : RunPlace (next b (2 * k + 1)) (2 * k) a (owner b (2 * k))) (at-c : RunPlace (next b (2 * k)) (2 * k + 1) c l) where
   abbrev x : ℕ
   x = 2 * k
 
