@@ -1,0 +1,40 @@
+-- What encoding and decoding are to each other.
+--     Fit r          the record r is one that the journal writes
+--     IsBlock bs     the list bs is 32 bytes
+--     Records-stand  the laws
+use mathlib.Core.Path.{_≡_}
+use mathlib.Core.Bool.{true}
+use mathlib.Core.List.{List}
+use Prim.Native.Nat.{ℕ, _<_, _≤_, _^_}
+use lib.ListN.{length, getD}
+use Rattle.std.specs.declared.option.Option.the-variants.{Some}
+use Rattle.boundary.specs.Refusals.{in-range}
+use Rattle.records.specs.declared.Record.{Record}
+use Rattle.records.specs.declared.Record.the-variants.{Change, Closing}
+use Rattle.records.specs.Records.{bytes-of, record-of}
+
+-- batches are numbered from 1, positions of edits go from 0 to 15 and counts of edits from 1 to 16
+abbrev pub Numbered : Record → Type 0
+Numbered (Change n p e) = (1 ≤ n) × (p < 16)
+Numbered (Closing n c) = (1 ≤ n) × (1 ≤ c) × (c ≤ 16)
+
+-- the number is within 32 bits, and an edit is in range
+abbrev pub Fit : Record → Type 0
+Fit (Change n p e) = Numbered (Change n p e) × (n < 2 ^ 32) × (in-range e ≡ true)
+Fit (Closing n c) = Numbered (Closing n c) × (n < 2 ^ 32)
+
+pub record IsBlock (bs : List ℕ) : Type 0 where
+  pub long : length bs ≡ 32
+  pub bytes : (k : ℕ) → k < 32 → getD bs k 0 < 256
+
+pub record Records-stand : Type 0 where
+  -- a record that is written is read back
+  pub round : (r : Record) → Fit r → record-of (bytes-of r) ≡ Some r
+  -- a block that is a record is the encoding of that record
+  pub exact : (bs : List ℕ) (r : Record) → IsBlock bs → record-of bs ≡ Some r → bs ≡ bytes-of r
+  -- no two blocks are one record
+  pub one-block : (bs cs : List ℕ) (r : Record) → IsBlock bs → IsBlock cs → record-of bs ≡ Some r → record-of cs ≡ Some r → bs ≡ cs
+  -- what is read is numbered as a record is
+  pub numbered : (bs : List ℕ) (r : Record) → record-of bs ≡ Some r → Numbered r
+  -- an encoding is a block
+  pub whole : (r : Record) → IsBlock (bytes-of r)
