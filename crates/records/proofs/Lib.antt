@@ -1,1 +1,4 @@
 pub mod Decoding
+pub mod Bytes
+pub mod Edits
+pub mod Laws
