@@ -2,7 +2,7 @@
 use mathlib.Core.Path.{_≡_, refl, sym, ap, subst, _∙_}
 use mathlib.Core.List.{List, [], _∷_, _++_}
 use Prim.Native.Nat.{ℕ, suc, zero, _+_, _*_, _/_, _%_, _^_, _<_, _≤_}
-use native.Mathlib.Nat.{div-div-eq-div-mul}
+use native.Mathlib.Nat.{div-div-eq-div-mul, mod-lt}
 use native.Mathlib.Omega.{arith}
 use lib.IntN.{ℤ, pos, negsuc}
 use lib.Arith.{digits-div, digits-mod}
@@ -12,6 +12,7 @@ use mir.Syntax.{w32}
 use mir.Val.{ofZ, toZ, SFits}
 use mathlib.Core.List.{map}
 use Rattle.std.specs.Iters.{counting}
+use Rattle.std.specs.shelf.Lists.{All}
 use Rattle.std.proofs.shelf.Counted.{fill-by-all}
 use Rattle.std.proofs.shelf.Signed.{toZ-ofZ, ofZ-toZ}
 use Rattle.boundary.specs.declared.Point.{Point}
@@ -103,18 +104,17 @@ pub record Sized (b : Block) : Type 0 where
 
 -- the bytes of a block, from its parts
 module _ (bs : List ℕ) (k : IsBlock bs) where
-
   two-same : (i : ℕ) → i + 1 < 32 → two (two-at bs i) ≡ getD bs i 0 ∷ getD bs (i + 1) 0 ∷ []
-  two-same i h = two-back (getD bs i 0) (getD bs (i + 1) 0) (k .bytes i (omega arith)) (k .bytes (i + 1) (omega arith))
+  two-same i h = two-back (getD bs i 0) (getD bs (i + 1) 0) (k .bytes i) (k .bytes (i + 1))
 
   four-same : (i : ℕ) → i + 3 < 32 → four (four-at bs i) ≡ getD bs i 0 ∷ getD bs (i + 1) 0 ∷ getD bs (i + 2) 0 ∷ getD bs (i + 3) 0 ∷ []
-  four-same i h = four-back (getD bs i 0) (getD bs (i + 1) 0) (getD bs (i + 2) 0) (getD bs (i + 3) 0) (k .bytes i (omega arith)) (k .bytes (i + 1) (omega arith)) (k .bytes (i + 2) (omega arith)) (k .bytes (i + 3) (omega arith))
+  four-same i h = four-back (getD bs i 0) (getD bs (i + 1) 0) (getD bs (i + 2) 0) (getD bs (i + 3) 0) (k .bytes i) (k .bytes (i + 1)) (k .bytes (i + 2)) (k .bytes (i + 3))
 
   pub four-small : (i : ℕ) → i + 3 < 32 → four-at bs i < 2 ^ 32
-  four-small i h = omega (arith, k .bytes i (omega arith), k .bytes (i + 1) (omega arith), k .bytes (i + 2) (omega arith), k .bytes (i + 3) (omega arith))
+  four-small i h = omega (arith, k .bytes i, k .bytes (i + 1), k .bytes (i + 2), k .bytes (i + 3))
 
   pub two-small : (i : ℕ) → i + 1 < 32 → two-at bs i < 2 ^ 16
-  two-small i h = omega (arith, k .bytes i (omega arith), k .bytes (i + 1) (omega arith))
+  two-small i h = omega (arith, k .bytes i, k .bytes (i + 1))
 
   signed-same : (i : ℕ) → i + 3 < 32 → four (complement (signed (four-at bs i))) ≡ getD bs i 0 ∷ getD bs (i + 1) 0 ∷ getD bs (i + 2) 0 ∷ getD bs (i + 3) 0 ∷ []
   signed-same i h = ap four (ofZ-toZ w32 (four-at bs i) (four-small i h)) ∙ four-same i h
@@ -151,3 +151,33 @@ parts-laid b s =
   where
     joined : {n n′ p p′ a a′ c c′ d d′ e e′ f f′ g g′ : ℕ} {x x′ y y′ z z′ : ℤ} → n ≡ n′ → p ≡ p′ → a ≡ a′ → c ≡ c′ → d ≡ d′ → e ≡ e′ → f ≡ f′ → g ≡ g′ → x ≡ x′ → y ≡ y′ → z ≡ z′ → whole (b .kind) (b .spare) n p a c d e f g x y z ≡ whole (b .kind) (b .spare) n′ p′ a′ c′ d′ e′ f′ g′ x′ y′ z′
     joined hn hp ha hb hc hd he hg hx hy hz = cc
+
+-- the numbers that are laid are bytes
+abbrev Bytes : List ℕ → Type 0
+Bytes xs = All (λ x. x < 256) xs
+
+byte : (n : ℕ) → n % 256 < 256
+byte n = mod-lt n (lit< tt)
+
+two-on : (n : ℕ) (xs : List ℕ) → Bytes xs → Bytes (two n ++ xs)
+two-on n xs b = (byte n, (byte (n / 256), b))
+
+four-on : (n : ℕ) (xs : List ℕ) → Bytes xs → Bytes (four n ++ xs)
+four-on n xs b = (byte n, (byte (n / 256), (byte (n / 65536), (byte (n / 16777216), b))))
+
+bytes-at : (xs : List ℕ) → Bytes xs → (k : ℕ) → getD xs k 0 < 256
+bytes-at [] b k = lit< tt
+bytes-at (x ∷ xs) b zero = b .0
+bytes-at (x ∷ xs) b (suc k) = bytes-at xs (b .1) k
+
+fields-on : (f : Fields) (xs : List ℕ) → Bytes xs → Bytes (laid-fields f ++ xs)
+fields-on f xs t = two-on (f .a) (two (f .b) ++ (two (f .c) ++ (two (f .d) ++ (two (f .e) ++ xs)))) (two-on (f .b) (two (f .c) ++ (two (f .d) ++ (two (f .e) ++ xs))) (two-on (f .c) (two (f .d) ++ (two (f .e) ++ xs)) (two-on (f .d) (two (f .e) ++ xs) (two-on (f .e) xs t))))
+
+point-bytes : (p : Point) → Bytes (laid-point p)
+point-bytes p =
+    let z : Bytes (four (complement (p .z))) = four-on (complement (p .z)) [] tt in
+    let y : Bytes (four (complement (p .y)) ++ four (complement (p .z))) = four-on (complement (p .y)) (four (complement (p .z))) z in
+    four-on (complement (p .x)) (four (complement (p .y)) ++ four (complement (p .z))) y
+
+pub laid-block : (b : Block) → b .kind < 256 → b .spare < 256 → IsBlock (laid b)
+laid-block b k s = record { long = refl; bytes = bytes-at (laid b) (k, (s, four-on (b .number) (two (b .position) ++ (laid-fields (b .fields) ++ (two (b .gap) ++ laid-point (b .at)))) (two-on (b .position) (laid-fields (b .fields) ++ (two (b .gap) ++ laid-point (b .at))) (fields-on (b .fields) (two (b .gap) ++ laid-point (b .at)) (two-on (b .gap) (laid-point (b .at)) (point-bytes (b .at))))))) }

@@ -32,8 +32,9 @@ named-small n h = rw (lt-ltb n 65536 h)
 pub named-bound : (z : ℤ) → named z < 2 ^ 16
 named-bound (negsuc n) = omega arith
 named-bound (pos n) = elim (cases-bool (ltb n 65536)) [
-    inl e ↦ rw e (ltb-true n 65536 e)
-  | inr e ↦ rw e (omega arith) ]
+  | inl e ↦ rw e (ltb-true n 65536 e)
+  | inr e ↦ rw e (omega arith)
+]
 
 -- the fields past the first n made zero
 abbrev first : ℕ → Fields → Fields
@@ -76,7 +77,6 @@ point-same false p h = origin-same p h
 
 -- the kind, the fields and the point of the edit that they make
 module _ (f : Fields) (q : Point) where
-
   pub kind-back : (k : ℕ) → 1 ≤ k → k ≤ 10 → kind-of (edit-of k f q) ≡ k
   kind-back = each-kind (λ k. kind-of (edit-of k f q) ≡ k) refl refl refl refl refl refl refl refl refl refl
 

@@ -1,5 +1,5 @@
 -- The laws of encoding and decoding.
-use mathlib.Core.Path.{_≡_, refl, sym, ap, _∙_}
+use mathlib.Core.Path.{_≡_, refl, sym, ap, subst, _∙_}
 use mathlib.Core.Bool.{Bool, true, false, cond, _&&_, _||_}
 use mathlib.Core.List.{List}
 use mathlib.Core.Logic.{_⊎_, inl, inr}
@@ -17,9 +17,9 @@ use Rattle.records.specs.declared.Block.{Block}
 use Rattle.records.specs.declared.Record.{Record}
 use Rattle.records.specs.declared.Record.the-variants.{Change, Closing}
 use Rattle.records.specs.Blocks.{laid, parts}
-use Rattle.records.specs.Laws.{Fit, Numbered, IsBlock, Records-stand}
+use Rattle.records.specs.Laws.{Fit, Numbered, IsBlock, IsRecord, Records-stand}
 use Rattle.records.specs.Records.{five, origin, kind-of, block-of, bytes-of, used-fields, has-point, zero-past, is-origin, rest-zero, numbered, edit-of, is-change, is-closing, meaning, record-of}
-use Rattle.records.proofs.Bytes.{Small, Sized, laid-parts, parts-laid}
+use Rattle.records.proofs.Bytes.{Small, Sized, laid-parts, parts-laid, laid-block}
 use Rattle.records.proofs.Bytes.{fields-small as read-small}
 use Rattle.records.proofs.Decoding.{change-meant, closing-meant}
 use Rattle.records.proofs.Edits.{kind-back, fields-back, point-back, first-same, point-same, edit-back, kind-bounds, fields-small, edit-near, origin-near}
@@ -102,5 +102,45 @@ of-block b r e = meant-by (is-change b) (is-closing b) _ _ r e
 pub exact : (bs : List ℕ) (r : Record) → IsBlock bs → record-of bs ≡ Some r → bs ≡ bytes-of r
 unfolding record-of bytes-of
 exact bs r k e = sym (ap laid (elim (of-block (parts bs) r e) [
-    inl c ↦ ap block-of (sym (c .1)) ∙ change-back (parts bs) (read-small bs k) (c .0)
-  | inr c ↦ ap block-of (sym (c .1)) ∙ closing-back (parts bs) (c .0) ]) ∙ laid-parts bs k)
+  | inl c ↦ ap block-of (sym (c .1)) ∙ change-back (parts bs) (read-small bs k) (c .0)
+  | inr c ↦ ap block-of (sym (c .1)) ∙ closing-back (parts bs) (c .0)
+]) ∙ laid-parts bs k)
+
+counted : (lo hi : ℕ) (b : Block) → numbered lo hi b ≡ true → (1 ≤ b .number) × (lo ≤ b .position) × (b .position ≤ hi)
+counted lo hi b h =
+    let p = and-parts (leb 1 (b .number)) _ h in
+    let q = and-parts (leb lo (b .position)) (leb (b .position) hi) (p .1) in
+    (leb-true 1 (b .number) (p .0), leb-true lo (b .position) (q .0), leb-true (b .position) hi (q .1))
+
+pub is-numbered : (bs : List ℕ) (r : Record) → record-of bs ≡ Some r → Numbered r
+unfolding record-of
+is-numbered bs r e = elim (of-block (parts bs) r e) [
+  | inl c ↦ subst Numbered (c .1) (change-numbered (parts bs) (c .0))
+  | inr c ↦ subst Numbered (c .1) (closing-numbered (parts bs) (c .0))
+]
+  where
+    change-numbered : (b : Block) → is-change b ≡ true → (1 ≤ b .number) × (b .position < 16)
+    change-numbered b h =
+        let n = counted 0 15 b (and-parts (numbered 0 15 b) (rest-zero b) (and-parts (leb 1 (b .kind) && leb (b .kind) 10) _ h .1) .0) in
+        (n .0, omega (arith, n .2))
+
+    closing-numbered : (b : Block) → is-closing b ≡ true → (1 ≤ b .number) × (1 ≤ b .position) × (b .position ≤ 16)
+    closing-numbered b h = counted 1 16 b (and-parts (numbered 1 16 b) (rest-zero b) (and-parts (eqb (b .kind) 100) _ h .1) .0)
+
+pub whole-block : (r : Record) → IsBlock (bytes-of r)
+unfolding bytes-of
+whole-block (Change n p e) = laid-block (block-of (Change n p e)) (let h = kind-bounds e .1 in omega arith) (lit< tt)
+whole-block (Closing n c) = laid-block (block-of (Closing n c)) (lit< tt) (lit< tt)
+
+pub stand : Records-stand
+stand = record {
+  round = round;
+  exact = exact;
+  one-block = λ bs cs r k l e f. exact bs r k e ∙ sym (exact cs r l f);
+  numbered = is-numbered;
+  whole = whole-block;
+}
+
+-- what `decode` answers of a block
+pub is-record : (bs : List ℕ) (o : Option Record) → IsBlock bs → o ≡ record-of bs → (r : Record) → o ≡ Some r → IsRecord bs r
+is-record bs o k a r e = record { same = exact bs r k (sym a ∙ e); numbered = is-numbered bs r (sym a ∙ e) }

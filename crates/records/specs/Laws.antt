@@ -1,6 +1,7 @@
 -- What encoding and decoding are to each other.
 --     Fit r          the record r is one that the journal writes
 --     IsBlock bs     the list bs is 32 bytes
+--     IsRecord bs r  the block bs is the record r, and numbered as a record is
 --     Records-stand  the laws
 use mathlib.Core.Path.{_≡_}
 use mathlib.Core.Bool.{true}
@@ -25,7 +26,12 @@ Fit (Closing n c) = Numbered (Closing n c) × (n < 2 ^ 32)
 
 pub record IsBlock (bs : List ℕ) : Type 0 where
   pub long : length bs ≡ 32
-  pub bytes : (k : ℕ) → k < 32 → getD bs k 0 < 256
+  pub bytes : (k : ℕ) → getD bs k 0 < 256
+
+-- what is known of the record r that the block bs is
+pub record IsRecord (bs : List ℕ) (r : Record) : Type 0 where
+  pub same : bs ≡ bytes-of r
+  pub numbered : Numbered r
 
 pub record Records-stand : Type 0 where
   -- a record that is written is read back
@@ -36,5 +42,5 @@ pub record Records-stand : Type 0 where
   pub one-block : (bs cs : List ℕ) (r : Record) → IsBlock bs → IsBlock cs → record-of bs ≡ Some r → record-of cs ≡ Some r → bs ≡ cs
   -- what is read is numbered as a record is
   pub numbered : (bs : List ℕ) (r : Record) → record-of bs ≡ Some r → Numbered r
-  -- an encoding is a block
+  -- what is written is a block
   pub whole : (r : Record) → IsBlock (bytes-of r)

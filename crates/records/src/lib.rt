@@ -3,7 +3,7 @@ ghost use mathlib.Core.Path.{_≡_};
 ghost use Prim.Native.Nat.{_<_};
 ghost use Rattle.boundary.specs.Operators.{named};
 ghost use Rattle.records.specs.Blocks.{laid, laid-fields, laid-point, two-at, four-at, signed, fields-at, point-at, parts};
-ghost use Rattle.records.specs.Laws.{Fit, Numbered, Records-stand};
+ghost use Rattle.records.specs.Laws.{Fit, IsRecord, Records-stand};
 ghost use Rattle.records.specs.Records.{five, kind-of, fields-of, point-of, origin, block-of, bytes-of, used-fields, has-point, zero-past, is-origin, rest-zero, edit-of, numbered, record-of};
 ghost use Rattle.records.specs.declared.Record.{Record};
 ghost use Rattle.std.specs.declared.option.Option.the-variants.{Some};
@@ -243,7 +243,8 @@ fn laid(block: Block) -> [u8; 32]
 
 // The block of a record.
 pub fn encode(record: Record) -> [u8; 32]
-    ensures { λ r. ⌜ r ≡ bytes-of «record» ⌝ }
+    ensures is { λ r. ⌜ r ≡ bytes-of «record» ⌝ }
+    ensures back { λ r. ⌜ (Fit «record» → record-of r ≡ Some «record») ⌝ }
 {
     laid(block_of(record))
 }
@@ -394,7 +395,8 @@ fn numbered(block: Block, first: u16, last: u16) -> bool
 
 // The record that a block is, if it is one.
 pub fn decode(bytes: &[u8; 32]) -> Option<Record>
-    ensures { λ r. ⌜ r ≡ record-of (now (bytes .entry)) ⌝ }
+    ensures is { λ r. ⌜ r ≡ record-of (now (bytes .entry)) ⌝ }
+    ensures back { λ r. ⌜ ((x : Record) → r ≡ Some x → IsRecord (now (bytes .entry)) x) ⌝ }
 {
     let block = parts(bytes);
     match block.kind {
@@ -413,4 +415,11 @@ pub fn decode(bytes: &[u8; 32]) -> Option<Record>
         }
         _ => None,
     }
+}
+
+// What encoding and decoding are to each other; the function is proved only where the laws are.
+pub fn records_stand() -> u8
+    ensures { λ _. ⌜ Records-stand ⌝ }
+{
+    0
 }
