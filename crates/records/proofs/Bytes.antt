@@ -119,10 +119,12 @@ module _ (bs : List ℕ) (k : IsBlock bs) where
   signed-same : (i : ℕ) → i + 3 < 32 → four (complement (signed (four-at bs i))) ≡ getD bs i 0 ∷ getD bs (i + 1) 0 ∷ getD bs (i + 2) 0 ∷ getD bs (i + 3) 0 ∷ []
   signed-same i h = ap four (ofZ-toZ w32 (four-at bs i) (four-small i h)) ∙ four-same i h
 
-  pub fields-small : Small (fields-at bs)
+  pub fields-small : Small (parts bs .fields)
+  unfolding parts
   fields-small = record { a = two-small 8 (lit< tt); b = two-small 10 (lit< tt); c = two-small 12 (lit< tt); d = two-small 14 (lit< tt); e = two-small 16 (lit< tt) }
 
   pub laid-parts : laid (parts bs) ≡ bs
+  unfolding parts
   laid-parts =
       joined (four-same 2 (lit< tt)) (two-same 6 (lit< tt))
       (two-same 8 (lit< tt)) (two-same 10 (lit< tt)) (two-same 12 (lit< tt)) (two-same 14 (lit< tt)) (two-same 16 (lit< tt))
@@ -144,6 +146,7 @@ abbrev whole : ℕ → ℕ → ℕ → ℕ → ℕ → ℕ → ℕ → ℕ → �
 whole k s n p a b c d e g x y z = record { kind = k; spare = s; number = n; position = p; fields = record { a = a; b = b; c = c; d = d; e = e }; gap = g; at = record { x = x; y = y; z = z } }
 
 pub parts-laid : (b : Block) → Sized b → parts (laid b) ≡ b
+unfolding parts
 parts-laid b s =
     joined (quad (b .number) (s .number)) (pair (b .position) (s .position))
     (pair (b .fields .a) (s .fields .a)) (pair (b .fields .b) (s .fields .b)) (pair (b .fields .c) (s .fields .c)) (pair (b .fields .d) (s .fields .d)) (pair (b .fields .e) (s .fields .e))

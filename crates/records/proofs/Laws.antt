@@ -6,6 +6,7 @@ use mathlib.Core.Logic.{_⊎_, inl, inr}
 use Prim.Native.Nat.{ℕ, _^_, _<_, _≤_}
 use native.Mathlib.Omega.{arith}
 use lib.Dec.{eqb, leb, lit<}
+use lib.ListN.{getD}
 use Rattle.std.specs.declared.option.Option.{Option}
 use Rattle.std.specs.declared.option.Option.the-variants.{Some, None}
 use Rattle.std.proofs.shelf.Tests.{and-parts, eqb-true, leb-true, le-leb}
@@ -16,12 +17,12 @@ use Rattle.records.specs.declared.Fields.{Fields}
 use Rattle.records.specs.declared.Block.{Block}
 use Rattle.records.specs.declared.Record.{Record}
 use Rattle.records.specs.declared.Record.the-variants.{Change, Closing}
-use Rattle.records.specs.Blocks.{laid, parts}
-use Rattle.records.specs.Laws.{Fit, Numbered, IsBlock, IsRecord, Records-stand}
+use Rattle.records.specs.Blocks.{laid, parts, two-at, four-at, fields-at, point-at}
+use Rattle.records.specs.Laws.{Fit, Numbered, IsBlock, IsRecord, Parted, Records-stand}
 use Rattle.records.specs.Records.{five, origin, kind-of, block-of, bytes-of, used-fields, has-point, zero-past, is-origin, rest-zero, numbered, edit-of, is-change, is-closing, meaning, record-of}
 use Rattle.records.proofs.Bytes.{Small, Sized, laid-parts, parts-laid, laid-block}
 use Rattle.records.proofs.Bytes.{fields-small as read-small}
-use Rattle.records.proofs.Decoding.{change-meant, closing-meant}
+use Rattle.records.proofs.Decoding.{meant, change-meant, closing-meant}
 use Rattle.records.proofs.Edits.{kind-back, fields-back, point-back, first-same, point-same, edit-back, kind-bounds, fields-small, edit-near, origin-near}
 
 rest-of : (n p : ℕ) (e : Edit) → rest-zero (block-of (Change n p e)) ≡ true
@@ -96,14 +97,14 @@ meant-by true u x y r e = inl (refl, cc)
 meant-by false true x y r e = inr (refl, cc)
 meant-by false false x y r e = absurd (let z : _≡_ {A = ℕ} 0 1 = cc in omega arith)
 
-of-block : (b : Block) (r : Record) → meaning b ≡ Some r → ((is-change b ≡ true) × (Change (b .number) (b .position) (edit-of (b .kind) (b .fields) (b .at)) ≡ r)) ⊎ ((is-closing b ≡ true) × (Closing (b .number) (b .position) ≡ r))
-of-block b r e = meant-by (is-change b) (is-closing b) _ _ r e
+of-block : (b : Block) (r : Record) → meaning b ≡ Some r → ((is-closing b ≡ true) × (Closing (b .number) (b .position) ≡ r)) ⊎ ((is-change b ≡ true) × (Change (b .number) (b .position) (edit-of (b .kind) (b .fields) (b .at)) ≡ r))
+of-block b r e = meant-by (is-closing b) (is-change b) _ _ r e
 
 pub exact : (bs : List ℕ) (r : Record) → IsBlock bs → record-of bs ≡ Some r → bs ≡ bytes-of r
 unfolding record-of bytes-of
 exact bs r k e = sym (ap laid (elim (of-block (parts bs) r e) [
-  | inl c ↦ ap block-of (sym (c .1)) ∙ change-back (parts bs) (read-small bs k) (c .0)
-  | inr c ↦ ap block-of (sym (c .1)) ∙ closing-back (parts bs) (c .0)
+  | inl c ↦ ap block-of (sym (c .1)) ∙ closing-back (parts bs) (c .0)
+  | inr c ↦ ap block-of (sym (c .1)) ∙ change-back (parts bs) (read-small bs k) (c .0)
 ]) ∙ laid-parts bs k)
 
 counted : (lo hi : ℕ) (b : Block) → numbered lo hi b ≡ true → (1 ≤ b .number) × (lo ≤ b .position) × (b .position ≤ hi)
@@ -115,8 +116,8 @@ counted lo hi b h =
 pub is-numbered : (bs : List ℕ) (r : Record) → record-of bs ≡ Some r → Numbered r
 unfolding record-of
 is-numbered bs r e = elim (of-block (parts bs) r e) [
-  | inl c ↦ subst Numbered (c .1) (change-numbered (parts bs) (c .0))
-  | inr c ↦ subst Numbered (c .1) (closing-numbered (parts bs) (c .0))
+  | inl c ↦ subst Numbered (c .1) (closing-numbered (parts bs) (c .0))
+  | inr c ↦ subst Numbered (c .1) (change-numbered (parts bs) (c .0))
 ]
   where
     change-numbered : (b : Block) → is-change b ≡ true → (1 ≤ b .number) × (b .position < 16)
@@ -141,6 +142,17 @@ stand = record {
   whole = whole-block;
 }
 
--- what `decode` answers of a block
-pub is-record : (bs : List ℕ) (o : Option Record) → IsBlock bs → o ≡ record-of bs → (r : Record) → o ≡ Some r → IsRecord bs r
-is-record bs o k a r e = record { same = exact bs r k (sym a ∙ e); numbered = is-numbered bs r (sym a ∙ e) }
+-- what is known of the parts of a block
+pub parted : (bs : List ℕ) (b : Block) → IsBlock bs → b ≡ parts bs → Parted bs b
+parted bs b k e = record {
+  is = e;
+  means = meant bs b e;
+  back = λ r f. record { same = exact bs r k f; numbered = is-numbered bs r f };
+}
+
+pub parted-by : (bs : List ℕ) {n p g : ℕ} {f : Fields} {q : Point} → IsBlock bs → n ≡ four-at bs 2 → p ≡ two-at bs 6 → f ≡ fields-at bs → g ≡ two-at bs 18 → q ≡ point-at bs → Parted bs (whole (getD bs 0 0) (getD bs 1 0) n p f g q)
+unfolding parts
+parted-by bs k en ep ef eg eq = parted bs _ k (same-parts en ep ef eg eq)
+  where
+    same-parts : {n n′ p p′ g g′ : ℕ} {f f′ : Fields} {q q′ : Point} → n ≡ n′ → p ≡ p′ → f ≡ f′ → g ≡ g′ → q ≡ q′ → whole (getD bs 0 0) (getD bs 1 0) n p f g q ≡ whole (getD bs 0 0) (getD bs 1 0) n′ p′ f′ g′ q′
+    same-parts a b c d e = cc

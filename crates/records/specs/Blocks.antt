@@ -50,7 +50,7 @@ fields-at bs = record { a = two-at bs 8; b = two-at bs 10; c = two-at bs 12; d =
 abbrev pub point-at : List ℕ → Point
 point-at bs = record { x = signed (four-at bs 20); y = signed (four-at bs 24); z = signed (four-at bs 28) }
 
-abbrev pub parts : List ℕ → Block
+unfoldable pub parts : List ℕ → Block
 parts bs = record {
   kind = getD bs 0 0;
   spare = getD bs 1 0;

@@ -10,9 +10,11 @@ use Prim.Native.Nat.{ℕ, _<_, _≤_, _^_}
 use lib.ListN.{length, getD}
 use Rattle.std.specs.declared.option.Option.the-variants.{Some}
 use Rattle.boundary.specs.Refusals.{in-range}
+use Rattle.records.specs.declared.Block.{Block}
 use Rattle.records.specs.declared.Record.{Record}
 use Rattle.records.specs.declared.Record.the-variants.{Change, Closing}
-use Rattle.records.specs.Records.{bytes-of, record-of}
+use Rattle.records.specs.Blocks.{parts}
+use Rattle.records.specs.Records.{bytes-of, meaning, record-of}
 
 -- batches are numbered from 1, positions of edits go from 0 to 15 and counts of edits from 1 to 16
 abbrev pub Numbered : Record → Type 0
@@ -32,6 +34,12 @@ pub record IsBlock (bs : List ℕ) : Type 0 where
 pub record IsRecord (bs : List ℕ) (r : Record) : Type 0 where
   pub same : bs ≡ bytes-of r
   pub numbered : Numbered r
+
+-- the parts b of the block bs, and what they mean
+pub record Parted (bs : List ℕ) (b : Block) : Type 0 where
+  pub is : b ≡ parts bs
+  pub means : record-of bs ≡ meaning b
+  pub back : (r : Record) → record-of bs ≡ Some r → IsRecord bs r
 
 pub record Records-stand : Type 0 where
   -- a record that is written is read back

@@ -134,8 +134,8 @@ is-closing b = eqb (b .kind) 100 && (numbered 1 16 b && rest-zero b)
 
 abbrev pub meaning : Block → Option Record
 meaning b =
-    cond (is-change b) (Some (Change (b .number) (b .position) (edit-of (b .kind) (b .fields) (b .at))))
-    (cond (is-closing b) (Some (Closing (b .number) (b .position))) None)
+    cond (is-closing b) (Some (Closing (b .number) (b .position)))
+    (cond (is-change b) (Some (Change (b .number) (b .position) (edit-of (b .kind) (b .fields) (b .at)))) None)
 
 unfoldable pub record-of : List ℕ → Option Record
 record-of bs = meaning (parts bs)

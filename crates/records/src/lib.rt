@@ -2,11 +2,11 @@
 ghost use mathlib.Core.Path.{_≡_};
 ghost use Prim.Native.Nat.{_<_};
 ghost use Rattle.boundary.specs.Operators.{named};
-ghost use Rattle.records.specs.Blocks.{laid, laid-fields, laid-point, two-at, four-at, signed, fields-at, point-at, parts};
-ghost use Rattle.records.specs.Laws.{Fit, IsRecord, Records-stand};
+ghost use Rattle.records.specs.Blocks.{laid, laid-fields, laid-point, two-at, four-at, signed, fields-at, point-at};
+ghost use Rattle.records.specs.Laws.{Fit, IsRecord, Parted, Records-stand};
 ghost use Rattle.records.specs.Records.{five, kind-of, fields-of, point-of, origin, block-of, bytes-of, used-fields, has-point, zero-past, is-origin, rest-zero, edit-of, numbered, record-of};
 ghost use Rattle.records.specs.declared.Record.{Record};
-ghost use Rattle.std.specs.declared.option.Option.the-variants.{Some};
+ghost use Rattle.std.specs.declared.option.Option.the-variants.{None, Some};
 use boundary::Edit;
 use boundary::Point;
 
@@ -270,27 +270,39 @@ fn signed_at(bytes: &[u8; 32], i: usize) -> i32
     i32::from_le_bytes([bytes[i], bytes[i + 1], bytes[i + 2], bytes[i + 3]])
 }
 
+fn fields_at(bytes: &[u8; 32]) -> Fields
+    ensures { λ r. ⌜ r ≡ fields-at (now (bytes .entry)) ⌝ }
+{
+    Fields {
+        a: two_at(bytes, 8),
+        b: two_at(bytes, 10),
+        c: two_at(bytes, 12),
+        d: two_at(bytes, 14),
+        e: two_at(bytes, 16),
+    }
+}
+
+fn point_at(bytes: &[u8; 32]) -> Point
+    ensures { λ r. ⌜ r ≡ point-at (now (bytes .entry)) ⌝ }
+{
+    Point {
+        x: signed_at(bytes, 20),
+        y: signed_at(bytes, 24),
+        z: signed_at(bytes, 28),
+    }
+}
+
 fn parts(bytes: &[u8; 32]) -> Block
-    ensures { λ r. ⌜ r ≡ parts (now (bytes .entry)) ⌝ }
+    ensures { λ r. ⌜ Parted (now (bytes .entry)) r ⌝ }
 {
     Block {
         kind: bytes[0],
         spare: bytes[1],
         number: four_at(bytes, 2),
         position: two_at(bytes, 6),
-        fields: five(
-            two_at(bytes, 8),
-            two_at(bytes, 10),
-            two_at(bytes, 12),
-            two_at(bytes, 14),
-            two_at(bytes, 16),
-        ),
+        fields: fields_at(bytes),
         gap: two_at(bytes, 18),
-        at: Point {
-            x: signed_at(bytes, 20),
-            y: signed_at(bytes, 24),
-            z: signed_at(bytes, 28),
-        },
+        at: point_at(bytes),
     }
 }
 
@@ -396,7 +408,7 @@ fn numbered(block: Block, first: u16, last: u16) -> bool
 // The record that a block is, if it is one.
 pub fn decode(bytes: &[u8; 32]) -> Option<Record>
     ensures is { λ r. ⌜ r ≡ record-of (now (bytes .entry)) ⌝ }
-    ensures back { λ r. ⌜ ((x : Record) → r ≡ Some x → IsRecord (now (bytes .entry)) x) ⌝ }
+    ensures back { λ r. ⌜ elim r [ None ↦ Unit {0} | Some x ↦ IsRecord (now (bytes .entry)) x ] ⌝ }
 {
     let block = parts(bytes);
     match block.kind {
