@@ -1,0 +1,9 @@
+pub mod Contents
+pub mod Faults
+pub mod Calls
+pub mod Rule
+pub mod Chains
+pub mod Losses
+pub mod Stops
+pub mod Settlings
+pub mod Eithers
