@@ -2,9 +2,9 @@
 use mathlib.Core.Path.{_≡_}
 use mathlib.Core.List.{List}
 use mathlib.Core.Logic.{_⊎_}
-use mathlib.Core.Bool.{Bool, true, false, _||_}
-use Prim.Native.Nat.{ℕ, _+_, _≤_}
-use lib.Dec.{eqb}
+use mathlib.Core.Bool.{Bool, true, false, cond, _||_}
+use Prim.Native.Nat.{ℕ, _+_, _-_}
+use lib.Dec.{eqb, ltb}
 use lib.ListN.{length}
 use Rattle.std.specs.declared.result.Result.{Result}
 use Rattle.std.specs.declared.result.Result.the-variants.{Ok, Err}
@@ -16,6 +16,18 @@ use Rattle.disk.specs.Calls.{Call, reading, writing, flushing, good}
 -- whether the power is off where k calls are left and g says so of the disk below
 abbrev pub stop-gone : ℕ → Bool → Bool
 stop-gone k g = eqb k 0 || g
+
+-- what a call with the place p is answered where k are left: 20 where there are none
+abbrev pub counted : ℕ → ℕ → Result (Unit {0}) DiskFault
+counted k p = cond (eqb k 0) (Err (PowerGone p)) (Ok tt)
+
+-- the same of a call that names block b of n: 21 where there is no such block
+abbrev pub found : ℕ → ℕ → ℕ → Result (Unit {0}) DiskFault
+found n k b = cond (ltb b n) (counted k b) (Err (NoSuchBlock b))
+
+-- the calls left after it: a call with a bad number is not counted
+abbrev pub left-found : ℕ → ℕ → ℕ → ℕ
+left-found n k b = cond (ltb b n) (k - 1) k
 
 -- the call was refused for its block number
 abbrev pub Misnumbered : Call → Type 0

@@ -4,7 +4,7 @@ ghost use lib.ListN.{getD, length, replicate, set};
 ghost use mathlib.Core.Bool.{Bool, false, true};
 ghost use mathlib.Core.List.{List, map};
 ghost use mathlib.Core.Path.{_≡_};
-ghost use Prim.Native.Nat.{ℕ, _<_};
+ghost use Prim.Native.Nat.{ℕ, _-_, _<_};
 ghost use Rattle.disk.specs.Calls.{Call, flushing, reading, writing};
 ghost use Rattle.disk.specs.Contents.{bytes-of, zeros};
 ghost use Rattle.disk.specs.declared.Cell.{Cell};
@@ -15,7 +15,7 @@ ghost use Rattle.disk.specs.Faults.{fault-layer, fault-number, fault-place};
 ghost use Rattle.disk.specs.Losses.{AfterLoss, Blank};
 ghost use Rattle.disk.specs.Rule.{Allowed};
 ghost use Rattle.disk.specs.Settlings.{May, Went, blank-cells, lost, lost-cell, read-all, read-cell, settle-cell, still, written};
-ghost use Rattle.disk.specs.Stops.{Stopped, stop-gone};
+ghost use Rattle.disk.specs.Stops.{Stopped, counted, found, left-found, stop-gone};
 ghost use Rattle.std.specs.shelf.Maps.{nth};
 
 // The place of a fault at a flush, which names no block.
@@ -127,6 +127,29 @@ impl<D: Disk> Stop<D> {
         Stop { disk, left }
     }
 
+    // Counts a call that is passed on, and refuses it where none is left.
+    fn count(&mut self, place: u32) -> Result<(), DiskFault>
+        ensures answer { λ r. ⌜ r ≡ counted (now (self .entry) .left) place ⌝ }
+        ensures after { λ _. ⌜ now (self .exit) ≡ record { disk = now (self .entry) .disk; left = now (self .entry) .left - 1 } ⌝ }
+    {
+        if self.left == 0 {
+            return Err(DiskFault::PowerGone(place));
+        }
+        self.left -= 1;
+        Ok(())
+    }
+
+    // The same for a call that names a block, which is refused first where its number is bad.
+    fn find(&mut self, block: u32) -> Result<(), DiskFault>
+        ensures answer { λ r. ⌜ r ≡ found (length (D·Disk .reads (now (self .entry) .disk))) (now (self .entry) .left) block ⌝ }
+        ensures after { λ _. ⌜ now (self .exit) ≡ record { disk = now (self .entry) .disk; left = left-found (length (D·Disk .reads (now (self .entry) .disk))) (now (self .entry) .left) block } ⌝ }
+    {
+        if block as usize >= self.size() {
+            return Err(DiskFault::NoSuchBlock(block));
+        }
+        self.count(block)
+    }
+
     // The disk below.
     pub fn into_disk(self) -> D
         ensures { λ r. ⌜ r ≡ self .disk ⌝ }
@@ -150,32 +173,17 @@ pub impl<D: Disk> Disk for Stop<D> as StopDisk {
     }
 
     fn read(&mut self, block: u32) -> Result<Content, DiskFault> {
-        if block as usize >= self.disk.size() {
-            return Err(DiskFault::NoSuchBlock(block));
-        }
-        if self.left == 0 {
-            return Err(DiskFault::PowerGone(block));
-        }
-        self.left -= 1;
+        self.find(block)?;
         self.disk.read(block)
     }
 
     fn write(&mut self, block: u32, bytes: [u8; 32]) -> Result<(), DiskFault> {
-        if block as usize >= self.disk.size() {
-            return Err(DiskFault::NoSuchBlock(block));
-        }
-        if self.left == 0 {
-            return Err(DiskFault::PowerGone(block));
-        }
-        self.left -= 1;
+        self.find(block)?;
         self.disk.write(block, bytes)
     }
 
     fn flush(&mut self) -> Result<(), DiskFault> {
-        if self.left == 0 {
-            return Err(DiskFault::PowerGone(NO_BLOCK));
-        }
-        self.left -= 1;
+        self.count(NO_BLOCK)?;
         self.disk.flush()
     }
 }
@@ -365,8 +373,8 @@ impl<C: Cells> Settling<C> {
     pub fn into_cells(self) -> C
         ensures { λ r. ⌜ r ≡ self .cells ⌝ }
     {
-        let Settling { cells } = self;
-        cells
+        let Settling { cells: below } = self;
+        below
     }
 
     // A loss of power, with a letter a block: at a waiting block n keeps the newest, u makes it unreadable, any other or none keeps the settled. Then nothing waits.
@@ -403,7 +411,7 @@ pub impl<C: Cells> Disk for Settling<C> as SettlingDisk {
     ghost did = { λ s c t. Went (C·Cells .held (s .cells)) c (C·Cells .held (t .cells)) };
 
     fn size(&self) -> usize {
-        self.cells.len()
+        self.cells.len() // a cell is a block
     }
 
     fn read(&mut self, block: u32) -> Result<Content, DiskFault> {
