@@ -129,7 +129,6 @@ put-used-cases es k h e u = elim (has-put-cases es k (h / 2) e u) [
   | inr v ↦ inr (inr v)
 ]
 
--- the edge k is cleared
 -- the edge of x is cleared, in terms of x and its mate
 pub clear-mates-in : (es : List (Option Edge)) (x h : ℕ) → h ≢ x → h ≢ mate x → Has es (h / 2) → Has (set es (x / 2) None) (h / 2)
 clear-mates-in es x h n m u = has-clear-in es (x / 2) (h / 2) (other-edge h x n m) u
