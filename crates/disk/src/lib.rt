@@ -253,6 +253,13 @@ impl Cell {
         }
     }
 
+    // A still cell with 32 zero bytes.
+    pub fn blank() -> Cell
+        ensures { λ r. ⌜ r ≡ still zeros ⌝ }
+    {
+        Cell::still(Content::Bytes([0; 32]))
+    }
+
     fn read(self) -> Content
         ensures { λ r. ⌜ r ≡ read-cell self ⌝ }
     {
@@ -299,7 +306,7 @@ pub fn blank(cells: &mut [Cell])
     ensures blank { λ _. ⌜ Blank read-all May (now (cells .exit)) ⌝ }
 {
     for cell in cells.iter_mut() {
-        *cell = Cell::still(Content::Bytes([0; 32]));
+        *cell = Cell::blank();
     }
 }
 
@@ -355,6 +362,13 @@ pub impl<'a> Cells for Lent<'a> as LentCells {
     }
 }
 
+// The letter of block `i`, or 0 where there is none.
+fn letter_at(letters: &[u8], i: usize) -> u8
+    ensures { λ r. ⌜ r ≡ getD (now (letters .entry)) i 0 ⌝ }
+{
+    if i < letters.len() { letters[i] } else { 0 }
+}
+
 // A disk over cells: a write stores the newest content, and a flush settles all. It never answers 20.
 #[derive(Drop)]
 pub struct Settling<C> {
@@ -383,9 +397,8 @@ impl<C: Cells> Settling<C> {
         ensures after { λ _. ⌜ AfterLoss (λ s. read-all (C·Cells .held (s .cells))) (λ s. May (C·Cells .held (s .cells))) (now (self .entry)) (now (self .exit)) ⌝ }
     {
         for i in 0..self.cells.len() {
-            let letter = if i < letters.len() { letters[i] } else { 0 };
             if let Some(cell) = self.cells.at(i) {
-                self.cells.put(i, cell.after_loss(letter));
+                self.cells.put(i, cell.after_loss(letter_at(letters, i)));
             }
         }
     }

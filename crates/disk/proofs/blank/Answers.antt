@@ -4,7 +4,7 @@ use lib.ListN.{length}
 use Rattle.disk.proofs.blank.Needs as need
 
 pub loop-cell-again : need.loop-cell-again
-loop-cell-again c = blank-more (c .args .cells .now) (c .loop-cell .cells) (c .loop-cell .cell-index) (c .still .result) (c .loop-cell-test .taken) (c .loop-cell .inv) (c .still .ensures)
+loop-cell-again c = blank-more (c .args .cells .now) (c .loop-cell .cells) (c .loop-cell .cell-index) (c .blank .result) (c .loop-cell-test .taken) (c .loop-cell .inv) (c .blank .ensures)
 
 pub returns : need.returns
 returns c =

@@ -1,24 +1,19 @@
 use mathlib.Core.Path.{_≡_, ap, sym, _∙_}
-use lib.ListN.{getD, length, length-set}
+use lib.ListN.{length, length-set}
 use native.Mathlib.Omega.{arith}
-use Rattle.std.proofs.shelf.Lists.{getD-past}
 use Rattle.disk.specs.Settlings.{lost-cell, no-cell, read-all, May}
 use Rattle.disk.proofs.Losses.{after-under}
 use Rattle.disk.proofs.Settlings.{lost-more, lost-end, lost-after, nth-is, nth-none}
 use Rattle.disk.proofs.Settling.lose.Needs as need
-use Rattle.disk.proofs.Settling.lose.Needs.{then-i-letters, else-i-letters, in-Some, in-rest}
+use Rattle.disk.proofs.Settling.lose.Needs.{in-Some, in-rest}
 
 pub loop-i-again : need.loop-i-again
 loop-i-again g c =
-    let letter : c .if-i-letters .letter ≡ getD (c .args .letters .now) (c .loop-i .i) 0 = elim (c .if-i-letters .came) [
-      | then-i-letters w ↦ w .letter-is
-      | else-i-letters w ↦ w .letter-is ∙ sym (getD-past (c .args .letters .now) (c .loop-i .i) 0 (w .if-i-letters .left))
-    ] in
     let cells = g .C·Cells .held (c .loop-i .self .cells) in
     elim (c .match-at .came) [
       | in-Some w ↦
           let now-is = ap (λ s. g .C·Cells .held (s .cells)) (w .self-is) ∙ w .put .ensures in (
-            lost-more (c .args .letters .now) (g .C·Cells .held (c .args .self .now .cells)) cells _ (c .loop-i .i) no-cell (w .after-loss .result) (c .if-i-letters .letter) (omega (arith, c .loop-i-test .taken, c .len-i-end .ensures)) (c .loop-i .inv .0) letter (w .after-loss .ensures ∙ ap (lost-cell (c .if-i-letters .letter)) (nth-is cells (c .loop-i .i) (w .in-Some .cell) (sym (w .in-Some .ensures tt)))) now-is,
+            lost-more (c .args .letters .now) (g .C·Cells .held (c .args .self .now .cells)) cells _ (c .loop-i .i) no-cell (w .after-loss .result) (w .letter-at .result) (omega (arith, c .loop-i-test .taken, c .len-i-end .ensures)) (c .loop-i .inv .0) (w .letter-at .ensures) (w .after-loss .ensures ∙ ap (lost-cell (w .letter-at .result)) (nth-is cells (c .loop-i .i) (w .in-Some .cell) (sym (w .in-Some .ensures tt)))) now-is,
             ap length now-is ∙ length-set cells (c .loop-i .i) (w .after-loss .result) ∙ c .loop-i .inv .1,
           )
       | in-rest w ↦ absurd (omega (arith, c .loop-i-test .taken, c .len-i-end .ensures, c .loop-i .inv .1, nth-none cells (c .loop-i .i) (sym (w .in-rest .ensures tt))))
