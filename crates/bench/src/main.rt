@@ -1,6 +1,7 @@
 // Tries a settling disk behind stops: makes calls, loses the power, and prints what was answered and what each block reads afterwards.
 ghost use mathlib.Core.List.{map};
 ghost use mathlib.Core.Path.{_≡_};
+ghost use Rattle.bench.specs.Lives.{Lived};
 ghost use Rattle.bench.specs.Steps.{call-of, calls-of};
 ghost use Rattle.disk.specs.Chains.{Chain};
 use disk::Cell;
@@ -114,6 +115,7 @@ fn perform_all<D: Disk>(disk: &mut D, steps: &mut [Step])
 
 // The first life of a disk over the cells: makes the calls behind a stop on a stop, and loses the power.
 fn first_life(cells: &mut [Cell], stops: (u32, u32), steps: &mut [Step], letters: &[u8])
+    ensures lived { λ _. ⌜ Lived (now (cells .entry)) (stops .0) (stops .1) (calls-of (now (steps .exit))) ⌝ }
     ensures acts { λ _. ⌜ map (λ s. s .0) (now (steps .exit)) ≡ map (λ s. s .0) (now (steps .entry)) ⌝ }
 {
     let (inner, outer) = stops;
