@@ -1,5 +1,5 @@
 -- A settling disk over lent cells behind two stops, seen as its cells and the calls left.
-use mathlib.Core.List.{List}
+use mathlib.Core.List.{List, [], _∷_}
 use Prim.Native.Nat.{ℕ}
 use denote.Ref.{now}
 use Rattle.disk.specs.declared.Cell.{Cell}
@@ -7,7 +7,10 @@ use Rattle.disk.specs.declared.Lent.{Lent}
 use Rattle.disk.specs.declared.Settling.{Settling}
 use Rattle.disk.specs.declared.Stop.{Stop}
 use Rattle.disk.specs.Calls.{Call}
-use Rattle.disk.specs.Chains.{Chain}
+use Rattle.disk.specs.declared.Either.{Either}
+use Rattle.disk.specs.declared.Either.the-variants.{First, Second}
+use Rattle.disk.specs.Eithers.{EitherDid}
+use Rattle.disk.specs.Chains.{Chain, none, first}
 use Rattle.disk.specs.Settlings.{Went, read-all}
 use Rattle.disk.specs.Stops.{Stopped}
 use Rattle.bench.specs.Lives.{BehindStop, BehindTwo}
@@ -39,3 +42,22 @@ twice s c t w = stopped-map stopped-once DidOnce BehindStop once (λ u. read-all
 
 pub lived-twice : (s t : Stop (Stop (Settling Lent))) (cs : List Call) → Chain DidTwice s cs t → Chain BehindTwo (stopped-twice s) cs (stopped-twice t)
 lived-twice s t cs r = chain-map stopped-twice DidTwice BehindTwo twice r
+
+-- what a chain of one make or another is, by the make
+abbrev pub Side : Either (Stop (Settling Lent)) (Settling Lent) → List Call → Type 0
+Side (First a) cs = (z : List Cell × ℕ) × Chain BehindStop (stopped-once a) cs z
+Side (Second b) cs = (z : List Cell) × Chain Went (lent-cells b) cs z
+
+side-end : (x : Either (Stop (Settling Lent)) (Settling Lent)) → Side x []
+side-end (First a) = (stopped-once a, none)
+side-end (Second b) = (lent-cells b, none)
+
+side-more : (x : Either (Stop (Settling Lent)) (Settling Lent)) (c : Call) (y : Either (Stop (Settling Lent)) (Settling Lent)) (cs : List Call) → EitherDid DidOnce DidPlain x c y → Side y cs → Side x (c ∷ cs)
+side-more (First a) c (First b) cs w s = (s .0, first (once a c b w) (s .1))
+side-more (First a) c (Second b) cs w s = absurd w
+side-more (Second a) c (First b) cs w s = absurd w
+side-more (Second a) c (Second b) cs w s = (s .0, first w (s .1))
+
+pub lived-side : {x z : Either (Stop (Settling Lent)) (Settling Lent)} {cs : List Call} → Chain (EitherDid DidOnce DidPlain) x cs z → Side x cs
+lived-side {x} none = side-end x
+lived-side (first {d} {e} {c = c} {cs = cs} w r) = side-more d c e cs w (lived-side r)

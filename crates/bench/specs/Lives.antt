@@ -1,6 +1,8 @@
 -- What a life of a settling disk answers, said of its cells alone.
 use mathlib.Core.List.{List}
 use Prim.Native.Nat.{ℕ}
+use Rattle.std.specs.declared.option.Option.{Option}
+use Rattle.std.specs.declared.option.Option.the-variants.{Some, None}
 use Rattle.disk.specs.declared.Cell.{Cell}
 use Rattle.disk.specs.Calls.{Call}
 use Rattle.disk.specs.Chains.{Chain}
@@ -18,3 +20,8 @@ BehindTwo s c t = Stopped (λ u. read-all (u .0)) BehindStop (s .0) (s .1) c (t 
 -- the calls with their answers are those of a settling disk over the cells, behind two stops
 abbrev pub Lived : List Cell → ℕ → ℕ → List Call → Type 0
 Lived cs inner outer calls = (z : (List Cell × ℕ) × ℕ) × Chain BehindTwo ((cs, inner), outer) calls z
+
+-- the same behind one stop, or plain
+abbrev pub Relived : List Cell → Option ℕ → List Call → Type 0
+Relived cs (Some k) calls = (z : List Cell × ℕ) × Chain BehindStop (cs, k) calls z
+Relived cs None calls = (z : List Cell) × Chain Went cs calls z

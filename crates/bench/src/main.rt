@@ -1,7 +1,7 @@
 // Tries a settling disk behind stops: makes calls, loses the power, and prints what was answered and what each block reads afterwards.
 ghost use mathlib.Core.List.{map};
 ghost use mathlib.Core.Path.{_≡_};
-ghost use Rattle.bench.specs.Lives.{Lived};
+ghost use Rattle.bench.specs.Lives.{Lived, Relived};
 ghost use Rattle.bench.specs.Steps.{call-of, calls-of};
 ghost use Rattle.disk.specs.Chains.{Chain};
 use disk::Cell;
@@ -127,14 +127,15 @@ fn first_life(cells: &mut [Cell], stops: (u32, u32), steps: &mut [Step], letters
 
 // The second life, behind a stop or plain.
 fn second_life(cells: &mut [Cell], stop: Option<u32>, steps: &mut [Step])
+    ensures lived { λ _. ⌜ Relived (now (cells .entry)) stop (calls-of (now (steps .exit))) ⌝ }
     ensures acts { λ _. ⌜ map (λ s. s .0) (now (steps .exit)) ≡ map (λ s. s .0) (now (steps .entry)) ⌝ }
 {
     let disk = Settling::new(Lent::new(cells));
-    let mut either = match stop {
+    let mut next = match stop {
         Some(left) => Either::First(Stop::new(disk, left)),
         None => Either::Second(disk),
     };
-    perform_all(&mut either, steps);
+    perform_all(&mut next, steps);
 }
 
 fn tell(rt: &LibcRuntime, title: &str, steps: &[Step]) -> io::Result<()> {
