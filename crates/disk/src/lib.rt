@@ -1,7 +1,7 @@
 // A disk of 32-byte blocks, the rule that every make of it keeps, and three makes.
 ghost use denote.Ref.{name, now};
-ghost use lib.ListN.{getD, length, replicate, set};
-ghost use mathlib.Core.Bool.{Bool, false, true};
+ghost use lib.ListN.{getD, length, set};
+ghost use mathlib.Core.Bool.{Bool, false};
 ghost use mathlib.Core.List.{List, map};
 ghost use mathlib.Core.Path.{_≡_};
 ghost use Prim.Native.Nat.{ℕ, _-_, _<_};
