@@ -20,8 +20,8 @@ use Rattle.records.proofs.Bytes.{Small, Near}
 
 -- a number from 1 to 10 is one of them
 each-kind : (P : ℕ → Type 0) → P 1 → P 2 → P 3 → P 4 → P 5 → P 6 → P 7 → P 8 → P 9 → P 10 → (k : ℕ) → 1 ≤ k → k ≤ 10 → P k
-each-kind P p1 p2 p3 p4 p5 p6 p7 p8 p9 p10 k lo hi =
-    at 1 p1 (λ n1. at 2 p2 (λ n2. at 3 p3 (λ n3. at 4 p4 (λ n4. at 5 p5 (λ n5. at 6 p6 (λ n6. at 7 p7 (λ n7. at 8 p8 (λ n8. at 9 p9 (λ n9. let e : 10 ≡ k = omega arith in subst P e p10)))))))))
+each-kind P q1 q2 q3 q4 q5 q6 q7 q8 q9 q10 k lo hi =
+    at 1 q1 (λ n1. at 2 q2 (λ n2. at 3 q3 (λ n3. at 4 q4 (λ n4. at 5 q5 (λ n5. at 6 q6 (λ n6. at 7 q7 (λ n7. at 8 q8 (λ n8. at 9 q9 (λ n9. let e : 10 ≡ k = omega arith in subst P e q10)))))))))
   where
     at : (m : ℕ) → P m → ((k ≡ m → ⊥) → P k) → P k
     at m p others = elim (cases-eq k m) [ inl e ↦ subst P (sym e) p | inr ne ↦ others ne ]
