@@ -1,5 +1,5 @@
 //! A second program for `draw`: it answers the same input and gives the output that is expected of
-//! `draw`. It keeps each ring as a list and shares nothing with the proved program but the rules in docs/.
+//! `draw`. It keeps each ring as a list and shares no code with the proved program.
 use std::collections::BTreeMap;
 use std::fmt::Write as _;
 use std::io::{Read, Write as _};
