@@ -1,4 +1,6 @@
 // Tries a settling disk behind stops: makes calls, loses the power, and prints what was answered and what each block reads afterwards.
+#![tactic(auto)]
+
 ghost use Rattle.std.specs.Prelude.{◌≡◌, map};
 ghost use Rattle.bench.specs.Lives.{Lived, Relived};
 ghost use Rattle.bench.specs.Steps.{call_of, calls_of};

@@ -1,4 +1,6 @@
 // The half-edge boundary of a solid: its rows, the edits that change it and the numbers by which an edit is refused.
+#![tactic(auto)]
+
 ghost use Rattle.std.specs.Prelude.{◌≡◌};
 ghost use Rattle.boundary.specs.Operators.{empty};
 ghost use Rattle.boundary.specs.Refusals.{code};

@@ -1,4 +1,6 @@
 // Worked cases of the solid, the journal and sessions, computed from the definitions that the contracts cite.
+#![tactic(auto)]
+
 ghost use Rattle.cases.specs.Cases.{All, the_cases};
 
 // Every case of the list holds.

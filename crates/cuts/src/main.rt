@@ -1,5 +1,7 @@
 // Journals a batch on a blank settling disk behind a stop, loses the power, and prints what is then read:
 // for each count of the stop, with every choice of letters at the blocks that wait.
+#![tactic(auto)]
+
 ghost use Rattle.std.specs.Prelude.{◌≡◌};
 ghost use Rattle.cuts.specs.Cuts.{Appended, Survived, Waits, flat, the_batch};
 ghost use Rattle.journal.specs.Drafts.{drafted};

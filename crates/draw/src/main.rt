@@ -1,4 +1,6 @@
 // Draws a solid from the edits on standard input, and prints each reply and then the finished solid.
+#![tactic(auto)]
+
 use std::io;
 use std::io::Read;
 

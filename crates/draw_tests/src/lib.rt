@@ -1,4 +1,6 @@
 // What drawing writes for small inputs.
+#![tactic(auto)]
+
 #[cfg(test)]
 mod tests {
     use drawing::draw;

@@ -1,4 +1,6 @@
 // Draws a solid from lines of edits: a reply to each line, and then the listing of the solid.
+#![tactic(auto)]
+
 ghost use Rattle.std.specs.Prelude.{◌≡◌, ◌≤◌, ◌++◌, length, take, IfOk, string_bytes, OnOk};
 ghost use Rattle.std.specs.Str.{bytes_eq};
 ghost use Rattle.boundary.specs.Operators.{empty};

@@ -1,4 +1,6 @@
 // Why a call of the solid, the journal or a session was refused. A fault that comes from below is carried whole.
+#![tactic(auto)]
+
 ghost use Rattle.std.specs.Prelude.{◌≡◌};
 ghost use Rattle.faults.specs.Told.{journal_told, session_told, solid_told};
 ghost use Rattle.faults.specs.declared.JournalFault.TheVariants.{Disk};

@@ -1,4 +1,6 @@
 // The journal on a disk: reading the whole batches that stand, and appending one more.
+#![tactic(auto)]
+
 ghost use Rattle.std.specs.Prelude.{◌≡◌, ◌<◌, ◌≤◌, false, List, [], length, Some, None, Ok, Err, Option};
 ghost use Rattle.journal.specs.Appends.{Appends};
 ghost use Rattle.journal.specs.Drafts.{drafted, push_answer, with_edit};

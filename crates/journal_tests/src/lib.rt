@@ -1,4 +1,6 @@
 // What the journal reads and answers on small disks.
+#![tactic(auto)]
+
 #[cfg(test)]
 mod tests {
     use boundary::{Edit, Point};

@@ -1,4 +1,6 @@
 // A boundary as text: a line of its counts, and then a line for each used row.
+#![tactic(auto)]
+
 ghost use Rattle.std.specs.Prelude.{◌≡◌, ℕ, List, ◌++◌, map, IfOk, string_bytes, decimal, OnOk};
 ghost use Rattle.boundary.specs.declared.Boundary.{Boundary};
 ghost use Rattle.boundary.specs.Tables.{count};

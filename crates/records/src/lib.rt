@@ -1,4 +1,6 @@
 // A record of the journal as a block of 32 bytes.
+#![tactic(auto)]
+
 ghost use Rattle.std.specs.Prelude.{◌≡◌, ◌<◌, Some, None};
 ghost use Rattle.boundary.specs.Operators.{named};
 ghost use Rattle.records.specs.Blocks.{laid, laid_fields, laid_point, two_at, four_at, signed, fields_at, point_at};

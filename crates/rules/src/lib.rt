@@ -1,4 +1,6 @@
 // The rules of a sound boundary, and that the operators keep them. A function here has a theorem as its contract, and is proved only where the theorem is.
+#![tactic(auto)]
+
 ghost use Rattle.std.specs.Prelude.{List};
 ghost use Rattle.boundary.specs.declared.Boundary.{Boundary};
 ghost use Rattle.boundary.specs.declared.Edit.{Edit};

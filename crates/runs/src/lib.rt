@@ -1,4 +1,6 @@
 // Lists of calls of a session with losses of power between and in them, and the law over every such list.
+#![tactic(auto)]
+
 ghost use Rattle.std.specs.Prelude.{◌≡◌, ◌≤◌, map, length};
 ghost use Rattle.disk.specs.Losses.{AfterLoss, Blank};
 ghost use Rattle.runs.specs.Laws.{KeptBy, call_of};

@@ -1,4 +1,6 @@
 // A session owns its disk, and a batch its session. Neither can be let go: a batch is committed or abandoned, and a session closed.
+#![tactic(auto)]
+
 ghost use Rattle.std.specs.Prelude.{◌≡◌};
 ghost use Rattle.session.specs.Sessions.{Begins, Commits, Edits, Opens, kept_fault};
 

@@ -1,4 +1,6 @@
 // Makes a list of calls of sessions on a disk that loses its power, and prints each call, its reply and the ledger that it leads to.
+#![tactic(auto)]
+
 use bench::Bench;
 use disk::Content;
 use runs::{Call, Reply, Step};

@@ -1,4 +1,6 @@
 // A solid: a boundary that only the operators change.
+#![tactic(auto)]
+
 ghost use Rattle.std.specs.Prelude.{◌≡◌};
 ghost use Rattle.boundary.specs.Operators.{empty};
 ghost use Rattle.boundary.specs.Refusals.{refusal, after, answer};

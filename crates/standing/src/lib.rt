@@ -1,4 +1,6 @@
 // What stands in a journal, and what lost power leaves of it. A function here has a theorem as its contract, and is proved only where the theorem is.
+#![tactic(auto)]
+
 ghost use Rattle.std.specs.Prelude.{◌≤◌, List, length, Option};
 ghost use Rattle.boundary.specs.declared.Edit.{Edit};
 ghost use Rattle.disk.specs.declared.Content.{Content};

@@ -1,4 +1,6 @@
 // The ledger in counts, from the replies of a run and from what each loss of power left.
+#![tactic(auto)]
+
 ghost use Rattle.std.specs.Prelude.{◌≡◌, ℕ, ◌≤◌, List, Option, slice_index_or};
 ghost use Rattle.disk.specs.declared.Content.{Content};
 ghost use Rattle.disk.specs.declared.Content.TheVariants.{Unreadable};

@@ -1,4 +1,6 @@
 // Cuts an input of bytes into lines, words and numbers, which borrow the input.
+#![tactic(auto)]
+
 ghost use Rattle.std.specs.Prelude.{◌≡◌, ◌^◌, ◌<◌, not, ◌∷◌, IfSome, ◌==◌, nat_eq};
 ghost use Rattle.std.specs.Option.{option_map};
 ghost use Rattle.std.specs.List.{prefix_len};
