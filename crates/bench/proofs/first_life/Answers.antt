@@ -12,8 +12,8 @@ returns c =
     ∙ ap (λ w. ((lent_cells w, c.args.stops.0), c.args.stops.1)) c.new-2.ensures.is ∙ ap (λ l. ((l, c.args.stops.0), c.args.stops.1)) c.new.ensures.held in
     record {
       lived = (
-        stopped_twice c.perform-all.new.disk,
-        subst (λ v. Chain BehindTwo v (calls_of c.perform-all.new.steps) (stopped_twice c.perform-all.new.disk)) start (lived_twice c.new-disk.result c.perform-all.new.disk (calls_of c.perform-all.new.steps) c.perform-all.ensures.calls),
+        stopped_twice c.perform_all.new.disk,
+        subst (λ v. Chain BehindTwo v (calls_of c.perform_all.new.steps) (stopped_twice c.perform_all.new.disk)) start (lived_twice c.new-disk.result c.perform_all.new.disk (calls_of c.perform_all.new.steps) c.perform_all.ensures.calls),
       );
-      acts = c.perform-all.ensures.acts;
+      acts = c.perform_all.ensures.acts;
     }

@@ -9,8 +9,8 @@ use Rattle.bench.proofs.second_life.Goals.{in-Some, in-None}
 
 pub returns : goal.returns
 returns c =
-    let calls = calls_of c.perform-all.new.steps in
-    let side : Side c.match-stop.next calls = lived_side c.perform-all.ensures.calls in
+    let calls = calls_of c.perform_all.new.steps in
+    let side : Side c.match-stop.next calls = lived_side c.perform_all.ensures.calls in
     let below : lent_cells c.new-disk.result ≡ c.args.cells.now = ap lent_cells c.new-disk.ensures.is ∙ c.new.ensures.held in
     let lived : Relived c.args.cells.now c.args.stop calls = elim c.match-stop.branch [
       | in-Some w ↦
@@ -20,4 +20,4 @@ returns c =
           let s = subst (λ x. Side x calls) w.next_is side in
           subst (λ o. Relived c.args.cells.now o calls) (sym w.in-None.is) (s.0, subst (λ v. Chain Went v calls s.0) below s.1)
     ] in
-    record { lived = lived; acts = c.perform-all.ensures.acts }
+    record { lived = lived; acts = c.perform_all.ensures.acts }

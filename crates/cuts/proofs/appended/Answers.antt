@@ -11,7 +11,7 @@ pub returns : goal.returns
 returns c =
     let start : stopped_once c.new-disk.result ≡ (c.args.cells.now, c.args.stop) =
     ap stopped_once c.new-disk.ensures ∙ ap (λ w. (lent_cells w, c.args.stop)) c.new-2.ensures.is ∙ ap (λ l. (l, c.args.stop)) c.new.ensures.held in
-    let end : lent_cells c.append.new.disk.disk ≡ lent_cells c.into-disk.result = ap lent_cells (sym c.into-disk.ensures) in
+    let end : lent_cells c.append.new.disk.disk ≡ lent_cells c.into_disk.result = ap lent_cells (sym c.into_disk.ensures) in
     let seen = appends_map stopped_once DidOnce BehindStop once c.new-disk.result nothing (drafted c.batch.result) c.append.result c.append.new.disk c.append.ensures.is in
     let from = subst (λ s. Appends BehindStop s nothing (drafted c.batch.result) c.append.result (stopped_once c.append.new.disk)) start seen in
     let of = subst (λ es. Appends BehindStop (c.args.cells.now, c.args.stop) nothing es c.append.result (stopped_once c.append.new.disk)) c.batch.ensures from in

@@ -11,13 +11,13 @@ loop-line-init c = let lines = c.new-lines.ensures in (rw (c.new-out.ensures.byt
 pub loop-line-preserved : goal.loop-line-preserved
 loop-line-preserved c =
     let told = c.in-Some.ensures in
-    let text = c.in-ok-write-reply.ensures ∙ ap (λ r. string_bytes c.loop-line.out ++ line_shown r) c.reply-to-reply.ensures.reply in (
-      drawn_more (string_bytes c.loop-line.out) _ c.loop-line.number c.loop-line.solid.boundary _ (lines_left c.loop-line.lines) _ c.in-Some.line.now _ c.loop-line.invariant.0 told.line told.left text c.reply-to-reply.ensures.left,
-      omega (arith, fewer (lines_left c.loop-line.lines) (lines_left c.next-line.new.self) c.in-Some.line.now told.line told.left),
+    let text = c.in_ok-write_reply.ensures ∙ ap (λ r. string_bytes c.loop-line.out ++ line_shown r) c.reply_to-reply.ensures.reply in (
+      drawn_more (string_bytes c.loop-line.out) _ c.loop-line.number c.loop-line.solid.boundary _ (lines_left c.loop-line.lines) _ c.in-Some.line.now _ c.loop-line.invariant.0 told.line told.left text c.reply_to-reply.ensures.left,
+      omega (arith, fewer (lines_left c.loop-line.lines) (lines_left c.next_line.new.self) c.in-Some.line.now told.line told.left),
     )
 
 pub returns : goal.returns
 returns c =
-    let all = drawn_all (string_bytes c.loop-line.out) c.loop-line.number c.loop-line.solid.boundary (lines_left c.loop-line.lines) _ c.loop-line.invariant.0 c.in-default.ensures.line in
-    let text = c.as-str.ensures.value ∙ c.in-ok-listed.ensures ∙ ap listed c.boundary.ensures in
-    c.in-ok-push-str.ensures.bytes ∙ ap (λ x. string_bytes c.loop-line.out ++ x) text ∙ all
+    let all = drawn_all (string_bytes c.loop-line.out) c.loop-line.number c.loop-line.solid.boundary (lines_left c.loop-line.lines) _ c.loop-line.invariant.0 c.in_default.ensures.line in
+    let text = c.as_str.ensures.value ∙ c.in_ok-listed.ensures ∙ ap listed c.boundary.ensures in
+    c.in_ok-push_str.ensures.bytes ∙ ap (λ x. string_bytes c.loop-line.out ++ x) text ∙ all

@@ -9,12 +9,12 @@ use Rattle.drawing.proofs.numbers.Goals as goal
 pub loop-i-init : goal.loop-i-init
 loop-i-init g c = (length-replicate g.row.N _, rw sub-zero (none_yet _))
 
-pub returns-in-default : goal.returns-in-default
-returns-in-default g c = too_few g.row.N c.loop-i.i c.loop-i.all (tokens_left c.loop-i.rest) _ c.loop-i.invariant.1 (omega arith) c.in-default.ensures.token
+pub returns-in_default : goal.returns-in_default
+returns-in_default g c = too_few g.row.N c.loop-i.i c.loop-i.all (tokens_left c.loop-i.rest) _ c.loop-i.invariant.1 (omega arith) c.in_default.ensures.token
 
-pub returns-in-default-token : goal.returns-in-default-token
-returns-in-default-token g c =
-    word_taken g.row.N c.loop-i.i c.loop-i.all (tokens_left c.loop-i.rest) _ c.loop-i.invariant.1 (part c.in-Some.token) c.in-Some.ensures.token (ap (λ t. (part t).value) c.in-default-token.is)
+pub returns-in_default-token : goal.returns-in_default-token
+returns-in_default-token g c =
+    word_taken g.row.N c.loop-i.i c.loop-i.all (tokens_left c.loop-i.rest) _ c.loop-i.invariant.1 (part c.in-Some.token) c.in-Some.ensures.token (ap (λ t. (part t).value) c.in_default-token.is)
 
 pub loop-i-preserved : goal.loop-i-preserved
 loop-i-preserved g c =
@@ -22,7 +22,7 @@ loop-i-preserved g c =
     let same = to_z-of_z w32 c.in-Number.value fits in
     let sofar = c.loop-i.invariant in (
       length-set c.loop-i.all _ _ ∙ sofar.0,
-      rw same (number_taken g.row.N c.loop-i.i c.loop-i.all (tokens_left c.loop-i.rest) _ sofar.1 (part c.in-Some.token) c.in-Number.value (tokens_left c.next-token.new.self) (omega arith) sofar.0 c.in-Some.ensures.token (ap (λ t. (part t).value) c.in-Number.is) c.in-Some.ensures.left),
+      rw same (number_taken g.row.N c.loop-i.i c.loop-i.all (tokens_left c.loop-i.rest) _ sofar.1 (part c.in-Some.token) c.in-Number.value (tokens_left c.next_token.new.self) (omega arith) sofar.0 c.in-Some.ensures.token (ap (λ t. (part t).value) c.in-Number.is) c.in-Some.ensures.left),
     )
 
 pub returns-in-None : goal.returns-in-None

@@ -5,7 +5,7 @@ use Rattle.journal.proofs.Applying.{applied_more, applied_refused}
 use Rattle.journal.proofs.apply_all.Goals as goal
 
 pub loop-i-preserved : goal.loop-i-preserved
-loop-i-preserved c = applied_more c.loop-i.solid.boundary c.loop-i.i c.args.edits.now _ c.loop-i-test.true c.apply.new.self.boundary c.in-default.ensures.reply c.in-default.ensures.left ∙ c.loop-i.invariant
+loop-i-preserved c = applied_more c.loop-i.solid.boundary c.loop-i.i c.args.edits.now _ c.loop-i-test.true c.apply.new.self.boundary c.in_default.ensures.reply c.in_default.ensures.left ∙ c.loop-i.invariant
 
 pub returns-in-Err : goal.returns-in-Err
 returns-in-Err c =

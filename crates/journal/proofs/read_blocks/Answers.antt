@@ -19,41 +19,41 @@ loop-k-init g c = record {
   bounds = record { batches = omega (arith, c.new-reader.ensures.batches); tail = omega (arith, c.new-reader.ensures.tail, ap length c.new-reader.ensures.draft) };
 }
 
-pub returns-in-err-content : goal.returns-in-err-content
-returns-in-err-content g c =
-    let p = err_from_is_err_and c.from-residual.result c.from-residual.ensures.1 in
-    let a = g.met.D.Disk.keeps _ _ _ c.in-err-content.ensures in
+pub returns-in_err-content : goal.returns-in_err-content
+returns-in_err-content g c =
+    let p = err_from_is_err_and c.from_residual.result c.from_residual.ensures.1 in
+    let a = g.met.D.Disk.keeps _ _ _ c.in_err-content.ensures in
     let lt : c.loop-k.k < length (g.D.Disk.reads c.args.disk.now) = omega (arith, c.loop-k-test.true, c.size-count.ensures) in
     rw (p.1, p.2) (
       record { low = omega arith; high = omega arith },
       c.loop-k.k,
       lt,
-      read_cut g.D.Disk.reads g.D.Disk.may g.D.Disk.gone c.loop-k.disk c.read.new.self c.loop-k.k c.in-err-content.field-0.0 (omega (arith, ap length c.loop-k.invariant.same)) a,
+      read_cut g.D.Disk.reads g.D.Disk.may g.D.Disk.gone c.loop-k.disk c.read.new.self c.loop-k.k c.in_err-content.field-0.0 (omega (arith, ap length c.loop-k.invariant.same)) a,
       seen_ok (g.D.Disk.reads c.args.disk.now) c.loop-k.k c.loop-k.reader c.loop-k.invariant.seen,
-      then_one c.loop-k.invariant.calls c.in-err-content.ensures,
+      then_one c.loop-k.invariant.calls c.in_err-content.ensures,
     )
 
-pub returns-in-err-advance : goal.returns-in-err-advance
-returns-in-err-advance g c =
-    let p = err_from_is_err_and c.from-residual-in-err-advance.result c.from-residual-in-err-advance.ensures.1 in
-    let a = g.met.D.Disk.keeps _ _ _ c.in-ok-content.ensures in
+pub returns-in_err-advance : goal.returns-in_err-advance
+returns-in_err-advance g c =
+    let p = err_from_is_err_and c.from_residual-in_err-advance.result c.from_residual-in_err-advance.ensures.1 in
+    let a = g.met.D.Disk.keeps _ _ _ c.in_ok-content.ensures in
     let lt : c.loop-k.k < length (g.D.Disk.reads c.args.disk.now) = omega (arith, c.loop-k-test.true, c.size-count.ensures) in
     let is = a.2 ∙ ap (λ cs. get_or cs c.loop-k.k Unreadable) c.loop-k.invariant.same in
     rw (p.1, p.2)
-    (failed_at g.D.Disk.reads g.D.Disk.did c.loop-k.k c.in-ok-content.content c.record_in.result c.loop-k.reader c.advance.new.self c.in-err-advance.field-0.0
-    (record { low = omega arith; high = omega arith }) lt is c.record_in.ensures c.loop-k.invariant.seen c.in-err-advance.ensures
-    (read_more (g.D.Disk.reads c.args.disk.now) c.loop-k.k c.in-ok-content.content lt is c.record_in.result c.record_in.ensures c.loop-k.invariant.calls c.in-ok-content.ensures))
+    (failed_at g.D.Disk.reads g.D.Disk.did c.loop-k.k c.in_ok-content.content c.record_in.result c.loop-k.reader c.advance.new.self c.in_err-advance.field-0.0
+    (record { low = omega arith; high = omega arith }) lt is c.record_in.ensures c.loop-k.invariant.seen c.in_err-advance.ensures
+    (read_more (g.D.Disk.reads c.args.disk.now) c.loop-k.k c.in_ok-content.content lt is c.record_in.result c.record_in.ensures c.loop-k.invariant.calls c.in_ok-content.ensures))
 
 pub loop-k-preserved : goal.loop-k-preserved
 loop-k-preserved g c =
-    let a = g.met.D.Disk.keeps _ _ _ c.in-ok-content.ensures in
+    let a = g.met.D.Disk.keeps _ _ _ c.in_ok-content.ensures in
     let lt : c.loop-k.k < length (g.D.Disk.reads c.args.disk.now) = omega (arith, c.loop-k-test.true, c.size-count.ensures) in
     let is = a.2 ∙ ap (λ cs. get_or cs c.loop-k.k Unreadable) c.loop-k.invariant.same in
-    let w = c.in-ok-advance.ensures in
+    let w = c.in_ok-advance.ensures in
     record {
-      calls = read_more (g.D.Disk.reads c.args.disk.now) c.loop-k.k c.in-ok-content.content lt is c.record_in.result c.record_in.ensures c.loop-k.invariant.calls c.in-ok-content.ensures;
+      calls = read_more (g.D.Disk.reads c.args.disk.now) c.loop-k.k c.in_ok-content.content lt is c.record_in.result c.record_in.ensures c.loop-k.invariant.calls c.in_ok-content.ensures;
       same = a.3.quiet.as_read ∙ c.loop-k.invariant.same;
-      seen = seen_more (g.D.Disk.reads c.args.disk.now) c.loop-k.k c.in-ok-content.content lt is c.record_in.result c.record_in.ensures c.loop-k.reader c.advance.new.self w.0 c.loop-k.invariant.seen;
+      seen = seen_more (g.D.Disk.reads c.args.disk.now) c.loop-k.k c.in_ok-content.content lt is c.record_in.result c.record_in.ensures c.loop-k.reader c.advance.new.self w.0 c.loop-k.invariant.seen;
       count = w.2 ∙ c.loop-k.invariant.count;
       bounds = w.1 c.loop-k.k c.loop-k.invariant.bounds;
     }

@@ -8,5 +8,5 @@ unfolding listed
 returns c =
     let b = c.args.b.now in
     let o = string_bytes c.args.out.now in
-    all_written o (counts_line (counted b)) (lines vertex_line b.vertices) (lines edge_line b.edges) (lines face_line b.faces) (lines (loop_line b) b.loops) (string_bytes c.write-counts.new.out) (string_bytes c.write-rows.new.out) (string_bytes c.write-rows-2.new.out) (string_bytes c.write-rows-3.new.out) (string_bytes c.write-rows-4.new.out)
-    (◌∙◌ {b = o ++ counts_line c.counts-of.result} c.in-ok-write-counts.ensures (ap (λ n. o ++ counts_line n) c.counts-of.ensures)) c.in-ok-write-rows.ensures c.in-ok-write-rows-2.ensures c.in-ok-write-rows-3.ensures c.in-ok-write-rows-4.ensures
+    all_written o (counts_line (counted b)) (lines vertex_line b.vertices) (lines edge_line b.edges) (lines face_line b.faces) (lines (loop_line b) b.loops) (string_bytes c.write_counts.new.out) (string_bytes c.write_rows.new.out) (string_bytes c.write_rows-2.new.out) (string_bytes c.write_rows-3.new.out) (string_bytes c.write_rows-4.new.out)
+    (◌∙◌ {b = o ++ counts_line c.counts_of.result} c.in_ok-write_counts.ensures (ap (λ n. o ++ counts_line n) c.counts_of.ensures)) c.in_ok-write_rows.ensures c.in_ok-write_rows-2.ensures c.in_ok-write_rows-3.ensures c.in_ok-write_rows-4.ensures

@@ -10,7 +10,7 @@ loop-init c =
 
 pub loop-preserved : goal.loop-preserved
 loop-preserved c =
-    written _ _ (32 ∷ decimal c.loop.h) _ _ _ c.in-ok-write-2.ensures.bytes
+    written _ _ (32 ∷ decimal c.loop.h) _ _ _ c.in_ok-write-2.ensures.bytes
     (left_more (next c.args.b.now) 384 c.loop.counter c.loop.h c.half-h-in-loop.result.next c.args.start c.loop-test.true c.if-h-start.false (ap (λ e. e.next) c.half-h-in-loop.ensures))
     c.loop.invariant
 
@@ -24,4 +24,4 @@ returns c =
       | then-loop-test+then-h-start w ↦ left_stop f (384 - c.loop.counter) c.loop.h k w.if-h-start.true
     ] in
     ring_written c.args.b.now k (string_bytes c.args.out.now) (string_bytes c.write.new.self) (string_bytes c.loop.out) (string_bytes c.writeln.new.self) (left f (384 - c.loop.counter) c.loop.h k)
-    c.in-ok-write.ensures.bytes c.loop.invariant stop c.in-ok-writeln.ensures.bytes
+    c.in_ok-write.ensures.bytes c.loop.invariant stop c.in_ok-writeln.ensures.bytes

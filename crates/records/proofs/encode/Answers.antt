@@ -12,5 +12,5 @@ encoded r bs e = e
 
 pub returns : goal.returns
 returns c =
-    let e : c.laid.result ≡ bytes_of c.args.record = encoded _ _ (c.laid.ensures ∙ ap laid c.block-of.ensures) in
+    let e : c.laid.result ≡ bytes_of c.args.record = encoded _ _ (c.laid.ensures ∙ ap laid c.block_of.ensures) in
     record { is = e; back = λ f. ap record_of e ∙ round c.args.record f }

@@ -21,11 +21,11 @@ pub loop-i-preserved : goal.loop-i-preserved
 loop-i-preserved g c =
     let lt : c.loop-i.i < length c.loop-i.steps = omega arith in
     record {
-      calls = same_calls c.loop-i.steps c.loop-i.i _ c.make-call-next.result.1 lt ∙ c.loop-i.invariant.calls;
+      calls = same_calls c.loop-i.steps c.loop-i.i _ c.make_call-next.result.1 lt ∙ c.loop-i.invariant.calls;
       law = λ b lo hi.
-          subst (λ ss. Going g.S.Make.Disk.reads g.S.Make.Disk.may g.S.Make.Disk.gone g.S.Make.Disk.did g.met.S.Make.Disk.stands g.met.S.Make.Disk.keeps c.args.disk lo hi ss c.make-call-next.result.0)
+          subst (λ ss. Going g.S.Make.Disk.reads g.S.Make.Disk.may g.S.Make.Disk.gone g.S.Make.Disk.did g.met.S.Make.Disk.stands g.met.S.Make.Disk.keeps c.args.disk lo hi ss c.make_call-next.result.0)
           (sym (take_more_set c.loop-i.steps c.loop-i.i _ lt))
-          (going_more g.S.Make.Disk.reads g.S.Make.Disk.may g.S.Make.Disk.gone g.S.Make.Disk.did g.met.S.Make.Disk.stands g.met.S.Make.Disk.keeps c.args.disk lo hi c.loop-i.phase _ c.make-call-next.result.0 c.make-call-next.result.1 (c.loop-i.invariant.law b lo hi) c.make-call-next.ensures);
+          (going_more g.S.Make.Disk.reads g.S.Make.Disk.may g.S.Make.Disk.gone g.S.Make.Disk.did g.met.S.Make.Disk.stands g.met.S.Make.Disk.keeps c.args.disk lo hi c.loop-i.phase _ c.make_call-next.result.0 c.make_call-next.result.1 (c.loop-i.invariant.law b lo hi) c.make_call-next.ensures);
     }
 
 pub returns : goal.returns

@@ -11,11 +11,11 @@ returns-then-b-lt48 c =
     let none = sym c.loop-b.invariant.1 ∙ no_digits c.args.text.now c.loop-b.b-index (omega arith) (elim c.then-b-lt48.branch [ then-b-lt48-via-then-b-lt48 w ↦ inl (omega arith) | then-b-lt48-via-else-b-lt48+then-b-gt57 w ↦ inr (omega arith) ]) in
     record { value = sym (numeral_none c.args.text.now none); small = tt }
 
-pub overflow-mul-value : goal.overflow-mul-value
-overflow-mul-value c = omega (arith, below_power 8 c.loop-b.value c.loop-b.b-index c.loop-b.invariant.0 (omega arith))
+pub overflow_mul-value : goal.overflow_mul-value
+overflow_mul-value c = omega (arith, below_power 8 c.loop-b.value c.loop-b.b-index c.loop-b.invariant.0 (omega arith))
 
-pub overflow-add-value : goal.overflow-add-value
-overflow-add-value c = omega (arith, below_power 8 c.loop-b.value c.loop-b.b-index c.loop-b.invariant.0 (omega arith))
+pub overflow_add-value : goal.overflow_add-value
+overflow_add-value c = omega (arith, below_power 8 c.loop-b.value c.loop-b.b-index c.loop-b.invariant.0 (omega arith))
 
 pub loop-b-preserved : goal.loop-b-preserved
 loop-b-preserved c =

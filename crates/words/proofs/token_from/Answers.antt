@@ -7,19 +7,19 @@ use Rattle.words.proofs.token_from.Goals as goal
 pub returns-then-from-bytes : goal.returns-then-from-bytes
 returns-then-from-bytes c = none_left c.args.bytes.now c.args.from (none_from c.args.bytes.now c.args.from (omega arith))
 
-pub overflow-add-at : goal.overflow-add-at
-overflow-add-at c = omega (arith, c.gap.ensures, passed c.args.bytes.now c.args.from (λ b. eqb b 32))
+pub overflow_add-at : goal.overflow_add-at
+overflow_add-at c = omega (arith, c.gap.ensures, passed c.args.bytes.now c.args.from (λ b. eqb b 32))
 
 pub returns-then-at-bytes : goal.returns-then-at-bytes
 returns-then-at-bytes c =
     let skipped = (behind_gap c.args.bytes.now c.args.from c.gap.result c.gap.ensures).0 in
     none_left c.args.bytes.now c.args.from (skipped ∙ none_from c.args.bytes.now _ (omega arith))
 
-pub slice-bounds-text-end : goal.slice-bounds-text-end
-slice-bounds-text-end c = omega (arith, c.reach-size.ensures, prefix_len-le-length (λ b. not (eqb b 32)) (take (length c.args.bytes.now - (c.args.from + c.gap.result)) (drop (c.args.from + c.gap.result) c.args.bytes.now)))
+pub slice_bounds-text-end : goal.slice_bounds-text-end
+slice_bounds-text-end c = omega (arith, c.reach-size.ensures, prefix_len-le-length (λ b. not (eqb b 32)) (take (length c.args.bytes.now - (c.args.from + c.gap.result)) (drop (c.args.from + c.gap.result) c.args.bytes.now)))
 
-pub overflow-add-result-in-None : goal.overflow-add-result-in-None
-overflow-add-result-in-None c = omega (arith, c.reach-size.ensures, passed c.args.bytes.now (c.args.from + c.gap.result) (λ b. not (eqb b 32)))
+pub overflow_add-result-in-None : goal.overflow_add-result-in-None
+overflow_add-result-in-None c = omega (arith, c.reach-size.ensures, passed c.args.bytes.now (c.args.from + c.gap.result) (λ b. not (eqb b 32)))
 
 pub returns-in-Some : goal.returns-in-Some
 returns-in-Some c =

@@ -3,7 +3,7 @@ use Rattle.disk.specs.Settlings.{lost_cell, no_cell, read_all, May}
 use Rattle.disk.proofs.Losses.{after_under}
 use Rattle.disk.specs.SettlingsLemmas.{lost_more, lost_end, lost_after, nth_is, nth_none}
 use Rattle.disk.proofs.Settling.lose.Goals as goal
-use Rattle.disk.proofs.Settling.lose.Goals.{in-Some, in-default}
+use Rattle.disk.proofs.Settling.lose.Goals.{in-Some, in_default}
 
 pub loop-i-preserved : goal.loop-i-preserved
 loop-i-preserved g c =
@@ -11,10 +11,10 @@ loop-i-preserved g c =
     elim c.match-at.branch [
       | in-Some w ↦
           let now_is = ap (λ s. g.C.Cells.held s.cells) w.self-is ∙ w.put.ensures in (
-            lost_more c.args.letters.now (g.C.Cells.held c.args.self.now.cells) cells _ c.loop-i.i no_cell w.after_loss.result w.letter-at.result (omega (arith, c.loop-i-test.true, c.len-i-end.ensures)) c.loop-i.invariant.0 w.letter-at.ensures (w.after_loss.ensures ∙ ap (lost_cell w.letter-at.result) (nth_is cells c.loop-i.i w.in-Some.cell (sym w.in-Some.ensures))) now_is,
+            lost_more c.args.letters.now (g.C.Cells.held c.args.self.now.cells) cells _ c.loop-i.i no_cell w.after_loss.result w.letter_at.result (omega (arith, c.loop-i-test.true, c.len-i-end.ensures)) c.loop-i.invariant.0 w.letter_at.ensures (w.after_loss.ensures ∙ ap (lost_cell w.letter_at.result) (nth_is cells c.loop-i.i w.in-Some.cell (sym w.in-Some.ensures))) now_is,
             ap length now_is ∙ length-set cells c.loop-i.i w.after_loss.result ∙ c.loop-i.invariant.1,
           )
-      | in-default w ↦ absurd (omega (arith, c.loop-i-test.true, c.len-i-end.ensures, c.loop-i.invariant.1, nth_none cells c.loop-i.i (sym w.in-default.ensures)))
+      | in_default w ↦ absurd (omega (arith, c.loop-i-test.true, c.len-i-end.ensures, c.loop-i.invariant.1, nth_none cells c.loop-i.i (sym w.in_default.ensures)))
     ]
 
 pub returns : goal.returns

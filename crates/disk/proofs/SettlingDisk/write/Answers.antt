@@ -8,7 +8,7 @@ pub returns-in-Some : goal.returns-in-Some
 returns-in-Some g c =
     let there = c.in-Some.ensures in (
       ap (write_answer c.args.block) there,
-      c.put.ensures ∙ ap (set (g.C.Cells.held c.args.self.now.cells) c.args.block) (c.after-write.ensures ∙ ap (λ a. written a c.args.bytes) (nth_is (g.C.Cells.held c.args.self.now.cells) c.args.block c.in-Some.cell (sym there))),
+      c.put.ensures ∙ ap (set (g.C.Cells.held c.args.self.now.cells) c.args.block) (c.after_write.ensures ∙ ap (λ a. written a c.args.bytes) (nth_is (g.C.Cells.held c.args.self.now.cells) c.args.block c.in-Some.cell (sym there))),
     )
 
 pub returns-in-None : goal.returns-in-None

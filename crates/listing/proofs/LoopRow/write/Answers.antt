@@ -4,6 +4,6 @@ use Rattle.listing.proofs.LoopRow.write.Goals as goal
 
 pub returns : goal.returns
 returns c =
-    c.in-ok-write-place.ensures
-    ∙ ap (λ l. l ++ words (place c.args.b.now c.args.k c.args.self.now.lone)) c.in-ok-write.ensures.bytes
+    c.in_ok-write_place.ensures
+    ∙ ap (λ l. l ++ words (place c.args.b.now c.args.k c.args.self.now.lone)) c.in_ok-write.ensures.bytes
     ∙ simp append_assoc

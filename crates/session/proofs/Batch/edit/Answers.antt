@@ -13,8 +13,8 @@ returns-in-Some g c = fault_first c.in-Some.fault c.in-Some.is refl refl
 
 pub returns-in-Err : goal.returns-in-Err
 returns-in-Err g c =
-    let room = has_room (drafted c.args.self.now.edits) c.in-ok-position.position c.in-ok-position.ensures in
+    let room = has_room (drafted c.args.self.now.edits) c.in_ok-position.position c.in_ok-position.ensures in
     let why = answered_some (refusal c.args.self.now.draft.boundary c.args.edit) c.in-Err.ensures.reply in
-    refused c.in-Err.why c.in-default.is room.0 why
+    refused c.in-Err.why c.in_default.is room.0 why
     (ap (λ b. record { session = c.args.self.now.session; draft = record { boundary = b }; edits = c.args.self.now.edits }) (c.in-Err.ensures.left ∙ refused_same c.args.self.now.draft.boundary c.args.edit c.in-Err.why why))
     (ap (λ p. Err (FromSolid (Refused c.in-Err.why p))) room.1)

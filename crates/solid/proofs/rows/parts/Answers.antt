@@ -2,17 +2,17 @@ use Rattle.std.proofs.Common.{◌≡◌, ◌+◌, sym, ap, ◌∙◌, arith, tak
 use Rattle.std.proofs.lemmas.List.Sums.{count_by_more_yes, count_by_more_no}
 use Rattle.boundary.specs.Tables.{in_row, parts}
 use Rattle.solid.proofs.rows.parts.Goals as goal
-use Rattle.solid.proofs.rows.parts.Goals.{then-lies-in, else-lies-in}
+use Rattle.solid.proofs.rows.parts.Goals.{then-lies_in, else-lies_in}
 
 pub loop-row-preserved : goal.loop-row-preserved
 loop-row-preserved g c =
     let p = in_row g.T.Part.whole c.args.k in
-    let item = sym (ap p c.row-item.is) ∙ sym c.lies-in.ensures in
+    let item = sym (ap p c.row-item.is) ∙ sym c.lies_in.ensures in
     let more = count_by_more_yes p c.args.rows.now c.loop-row.row-index c.row-item.result c.loop-row-test.true in
     let same = count_by_more_no p c.args.rows.now c.loop-row.row-index c.row-item.result c.loop-row-test.true in
-    elim c.if-lies-in.branch [
-      | then-lies-in w ↦ (w.n-is ∙ ap (λ n. n + 1) c.loop-row.invariant.0 ∙ sym (more (item ∙ w.if-lies-in.true)), omega (arith, w.n-is))
-      | else-lies-in w ↦ (w.n-is ∙ c.loop-row.invariant.0 ∙ sym (same (item ∙ w.if-lies-in.false)), omega (arith, w.n-is))
+    elim c.if-lies_in.branch [
+      | then-lies_in w ↦ (w.n-is ∙ ap (λ n. n + 1) c.loop-row.invariant.0 ∙ sym (more (item ∙ w.if-lies_in.true)), omega (arith, w.n-is))
+      | else-lies_in w ↦ (w.n-is ∙ c.loop-row.invariant.0 ∙ sym (same (item ∙ w.if-lies_in.false)), omega (arith, w.n-is))
     ]
 
 pub returns : goal.returns
