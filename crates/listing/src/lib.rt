@@ -8,7 +8,6 @@ ghost use Rattle.listing.specs.Listing.{words, counted, counts_line, vertex_line
 
 use boundary::{Boundary, Edge, Face, Loop, Point, half, row};
 use std::alloc::{AllocError, Global};
-use std::fmt;
 
 // Two of each edge.
 const HALF_EDGES: u16 = 384;
@@ -29,14 +28,14 @@ trait Row: Sized {
     ghost text: { Boundary → ℕ → Self → List ℕ };
 
     // Writes the line of this row, whose number is `k`.
-    fn write(&self, k: usize, b: &Boundary, out: &mut String) -> fmt::Result
+    fn write(&self, k: usize, b: &Boundary, out: &mut String) -> Result<(), AllocError>
         ensures { OnOk result (string_bytes out.new ≡ string_bytes out.old ++ text b.now k self.now) };
 }
 
 impl Row for Point {
     ghost text = { λ _. vertex_line };
 
-    fn write(&self, k: usize, _b: &Boundary, out: &mut String) -> fmt::Result {
+    fn write(&self, k: usize, _b: &Boundary, out: &mut String) -> Result<(), AllocError> {
         let Point { x, y, z } = *self;
         writeln!(out, "v {k} {x} {y} {z}")
     }
@@ -45,7 +44,7 @@ impl Row for Point {
 impl Row for Edge {
     ghost text = { λ _. edge_line };
 
-    fn write(&self, k: usize, _b: &Boundary, out: &mut String) -> fmt::Result {
+    fn write(&self, k: usize, _b: &Boundary, out: &mut String) -> Result<(), AllocError> {
         let even = self.even.start;
         let odd = self.odd.start;
         writeln!(out, "e {k} {even} {odd}")
@@ -55,7 +54,7 @@ impl Row for Edge {
 impl Row for Face {
     ghost text = { λ _. face_line };
 
-    fn write(&self, k: usize, _b: &Boundary, out: &mut String) -> fmt::Result {
+    fn write(&self, k: usize, _b: &Boundary, out: &mut String) -> Result<(), AllocError> {
         let Face { shell, outer } = *self;
         writeln!(out, "f {k} {shell} {outer}")
     }
@@ -64,7 +63,7 @@ impl Row for Face {
 impl Row for Loop {
     ghost text = { loop_line };
 
-    fn write(&self, k: usize, b: &Boundary, out: &mut String) -> fmt::Result {
+    fn write(&self, k: usize, b: &Boundary, out: &mut String) -> Result<(), AllocError> {
         let face = self.face;
         write!(out, "l {k} {face}")?;
         write_place(k, self.lone, b, out)?;
@@ -92,7 +91,7 @@ fn first_half(b: &Boundary, l: usize) -> Option<u16>
 }
 
 // Writes the ring from the half-edge `start` on, to the end of the line.
-fn write_ring(start: u16, b: &Boundary, out: &mut String) -> fmt::Result
+fn write_ring(start: u16, b: &Boundary, out: &mut String) -> Result<(), AllocError>
     ensures { OnOk result (string_bytes out.new ≡ string_bytes out.old ++ words (map decimal (ring b.now start))) }
 {
     write!(out, " {start}")?;
@@ -109,7 +108,12 @@ fn write_ring(start: u16, b: &Boundary, out: &mut String) -> fmt::Result
 }
 
 // Writes where the loop `l` lies, to the end of the line: at its lone vertex, or else along its ring.
-fn write_place(l: usize, lone: Option<u16>, b: &Boundary, out: &mut String) -> fmt::Result
+fn write_place(
+    l: usize,
+    lone: Option<u16>,
+    b: &Boundary,
+    out: &mut String,
+) -> Result<(), AllocError>
     ensures { OnOk result (string_bytes out.new ≡ string_bytes out.old ++ words (place b.now l lone)) }
 {
     if let Some(v) = lone {
@@ -122,8 +126,13 @@ fn write_place(l: usize, lone: Option<u16>, b: &Boundary, out: &mut String) -> f
 }
 
 // Writes the line of the row whose number is `k`, if it is used.
-fn write_row<R: Row>(k: usize, row: &Option<R>, b: &Boundary, out: &mut String) -> fmt::Result
-    ensures { OnOk result (string_bytes out.new ≡ string_bytes out.old ++ row_line (text b.now) k row.now) }
+fn write_row<R: Row>(
+    k: usize,
+    row: &Option<R>,
+    b: &Boundary,
+    out: &mut String,
+) -> Result<(), AllocError>
+    ensures { OnOk result (string_bytes out.new ≡ string_bytes out.old ++ row_line (R.text b.now) k row.now) }
 {
     match row {
         Some(row) => row.write(k, b, out),
@@ -132,8 +141,8 @@ fn write_row<R: Row>(k: usize, row: &Option<R>, b: &Boundary, out: &mut String) 
 }
 
 // Writes the lines of the used rows.
-fn write_rows<R: Row>(rows: &[Option<R>], b: &Boundary, out: &mut String) -> fmt::Result
-    ensures { OnOk result (string_bytes out.new ≡ string_bytes out.old ++ lines (text b.now) rows.now) }
+fn write_rows<R: Row>(rows: &[Option<R>], b: &Boundary, out: &mut String) -> Result<(), AllocError>
+    ensures { OnOk result (string_bytes out.new ≡ string_bytes out.old ++ lines (R.text b.now) rows.now) }
 {
     for (k, row) in rows.iter().enumerate() {
         write_row(k, row, b, out)?;
@@ -169,7 +178,7 @@ fn counts_of(b: &Boundary) -> Counts
 }
 
 // Writes the line of the counts.
-fn write_counts(counts: Counts, out: &mut String) -> fmt::Result
+fn write_counts(counts: Counts, out: &mut String) -> Result<(), AllocError>
     ensures { OnOk result (string_bytes out.new ≡ string_bytes out.old ++ counts_line counts) }
 {
     let Counts {
@@ -188,7 +197,7 @@ fn write_counts(counts: Counts, out: &mut String) -> fmt::Result
 }
 
 // Writes the whole listing.
-fn write_all(b: &Boundary, out: &mut String) -> fmt::Result
+fn write_all(b: &Boundary, out: &mut String) -> Result<(), AllocError>
     ensures { OnOk result (string_bytes out.new ≡ string_bytes out.old ++ listed b.now) }
 {
     write_counts(counts_of(b), out)?;
@@ -204,8 +213,6 @@ pub fn listing(heap: Global, b: &Boundary) -> Result<String, AllocError>
     ensures { IfOk result (λ t. string_bytes t ≡ listed b.now) }
 {
     let mut out = String::new(heap);
-    match write_all(b, &mut out) {
-        Ok(()) => Ok(out),
-        Err(_) => Err(AllocError),
-    }
+    write_all(b, &mut out)?;
+    Ok(out)
 }

@@ -63,7 +63,7 @@ impl Part for Loop {
 }
 
 fn lies_in<T: Part>(row: &Option<T>, k: u16) -> bool
-    ensures { result ≡ in_row whole k row.now }
+    ensures { result ≡ in_row T.whole k row.now }
 {
     match row {
         None => false,
@@ -73,7 +73,7 @@ fn lies_in<T: Part>(row: &Option<T>, k: u16) -> bool
 
 // How many rows lie in `k`.
 pub(crate) fn parts<T: Part>(rows: &[Option<T>], k: u16) -> usize
-    ensures { result ≡ parts whole rows.now k }
+    ensures { result ≡ parts T.whole rows.now k }
 {
     let mut n = 0;
     for row in rows {
@@ -86,7 +86,7 @@ pub(crate) fn parts<T: Part>(rows: &[Option<T>], k: u16) -> usize
 
 // The first row that lies in `k`.
 pub(crate) fn first_part<T: Part>(rows: &[Option<T>], k: u16) -> usize
-    ensures is { result ≡ first_part whole rows.now k }
+    ensures is { result ≡ first_part T.whole rows.now k }
     ensures within { result ≤ length rows.now }
 {
     for (i, row) in rows.iter().enumerate() {
@@ -106,7 +106,7 @@ pub(crate) trait Change<T>: Sized {
 }
 
 fn changed_row<T: Copy, C: Change<T>>(row: Option<T>, by: &C) -> Option<T>
-    ensures { result ≡ option_map (changed by.now) row }
+    ensures { result ≡ option_map (C.changed by.now) row }
 {
     match row {
         None => None,
@@ -115,7 +115,7 @@ fn changed_row<T: Copy, C: Change<T>>(row: Option<T>, by: &C) -> Option<T>
 }
 
 pub(crate) fn change_all<T: Copy, C: Change<T>>(rows: &mut [Option<T>], by: &C)
-    ensures { rows.new ≡ map (option_map (changed by.now)) rows.old }
+    ensures { rows.new ≡ map (option_map (C.changed by.now)) rows.old }
 {
     for k in 0..rows.len() {
         rows[k] = changed_row(rows[k], by);
