@@ -8,7 +8,7 @@
 --     in_row w k r   whether the row r is used and lies in k, where w tells what a row lies in
 --     parts w t k    how many rows of t lie in k, and first_part w t k the first of them
 --     run f n h k    from h on, by the step f, up to just before k: at most n elements
-use Rattle.std.specs.Prelude.{ℕ, zero, suc, ◌+◌, ◌-◌, ◌/◌, ◌%◌, Bool, true, false, cond, ◌&&◌, List, [], ◌∷◌, is_some, Some, None, count_by, Option, ◌==◌, nat_lt, slice_index_or}
+use Rattle.std.specs.Prelude.{ℕ, zero, suc, ◌+◌, ◌-◌, ◌/◌, ◌%◌, Bool, true, false, cond, List, [], ◌∷◌, is_some, Some, None, count_by, Option, ◌==◌, nat_lt, slice_index_or}
 use Rattle.std.specs.Option.{unwrap_or}
 use Rattle.boundary.specs.declared.HalfEdge.{HalfEdge}
 use Rattle.boundary.specs.declared.Edge.{Edge}

@@ -1,5 +1,5 @@
 -- What the power rule says of the power, whatever the call: once gone it stays gone, then every good call is answered 20, and a 20 means that it is gone.
-use Rattle.std.proofs.Common.{◌≡◌, ℕ, ◌<◌, ◌≤◌, Bool, true, false, List, length, Ok, Err, sym, refl, ap, ◌∙◌, arith, length-set, ltb-true}
+use Rattle.std.proofs.Common.{◌≡◌, ℕ, Bool, true, false, List, length, Ok, Err, sym, refl, ap, ◌∙◌, arith, length-set, ltb-true}
 use Rattle.disk.specs.declared.Content.{Content}
 use Rattle.disk.specs.declared.DiskFault.TheVariants.{PowerGone, NoSuchBlock}
 use Rattle.disk.specs.Calls.{Call, reading, writing, flushing, good, cut}

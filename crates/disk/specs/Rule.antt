@@ -1,10 +1,9 @@
 -- The power rule: what one call of a disk may change, by the call and its answer.
 -- Of a disk state d, `reads d` says what each block reads, `may d k c` that the content c may stand in block k after the power is lost,
 -- and `gone d` whether the power is off.
-use Rattle.std.specs.Prelude.{◌≡◌, ℕ, ◌<◌, ◌≤◌, Bool, true, false, ◌⊎◌, List, length, set, Ok, Err, Result, slice_index_or, slice_set}
+use Rattle.std.specs.Prelude.{◌≡◌, ℕ, ◌<◌, ◌≤◌, Bool, true, false, ◌⊎◌, List, length, Ok, Err, slice_index_or, slice_set}
 use Rattle.disk.specs.declared.Content.{Content}
 use Rattle.disk.specs.declared.Content.TheVariants.{Bytes, Unreadable}
-use Rattle.disk.specs.declared.DiskFault.{DiskFault}
 use Rattle.disk.specs.declared.DiskFault.TheVariants.{PowerGone, NoSuchBlock}
 use Rattle.disk.specs.Calls.{Call, reading, writing, flushing}
 

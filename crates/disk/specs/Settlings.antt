@@ -1,5 +1,5 @@
 -- The settling disk: cells, each with a settled content, a newest content and a waiting mark.
-use Rattle.std.specs.Prelude.{◌≡◌, ℕ, ◌+◌, ◌<◌, Bool, true, false, cond, ◌⊎◌, List, [], ◌∷◌, map, length, replicate, Some, None, Ok, Err, Option, Result, ◌==◌, slice_index, slice_index_or, slice_set}
+use Rattle.std.specs.Prelude.{◌≡◌, ℕ, ◌+◌, ◌<◌, true, false, cond, ◌⊎◌, List, [], ◌∷◌, map, length, replicate, Some, None, Ok, Err, Option, Result, ◌==◌, slice_index, slice_index_or, slice_set}
 use Rattle.std.specs.List.{slice_get}
 use Rattle.disk.specs.declared.Content.{Content}
 use Rattle.disk.specs.declared.Content.TheVariants.{Bytes, Unreadable}

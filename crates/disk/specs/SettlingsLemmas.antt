@@ -1,15 +1,15 @@
 -- The settling disk keeps the power rule, and its loss call leaves what the rule allows.
-use Rattle.std.specs.Prelude.{◌≡◌, ℕ, zero, suc, ◌+◌, ◌<◌, ◌≤◌, Bool, true, false, cond, ◌⊎◌, List, [], ◌∷◌, ◌++◌, map, length, get_or, take, drop, set, Some, None, Ok, Err, Option, ◌==◌, slice_index, slice_index_or, slice_set, refl}
+use Rattle.std.specs.Prelude.{◌≡◌, ℕ, zero, suc, ◌+◌, ◌<◌, ◌≤◌, Bool, true, false, cond, ◌⊎◌, List, [], ◌∷◌, ◌++◌, map, length, get_or, take, drop, set, Some, None, Option, ◌==◌, slice_index, slice_index_or, slice_set, refl}
 use Rattle.std.proofs.Common.{sym, ap, subst, ◌∙◌, inl, inr, arith, add-one}
 use Rattle.std.proofs.Math.Decide.{ℕ_discrete}
-use Rattle.std.proofs.lemmas.List.{append-nil, append_assoc, take_all, drop_all, take_more, drop_more, set_at, get_or_at, length-take-le, get_or_default, get_or-set_same, get_or-set_other, map-set, length-map, length-set, set_past, length-replicate, get_or-replicate, replicate_more}
+use Rattle.std.proofs.lemmas.List.{append-nil, append_assoc, take_all, drop_all, take_more, drop_more, set_at, get_or_at, length-take-le, get_or-set_same, get_or-set_other, map-set, length-map, length-set, set_past, length-replicate, get_or-replicate, replicate_more}
 use Rattle.std.proofs.lemmas.Option.{slice_get-get_or}
 use Rattle.std.specs.List.{slice_get}
 use Rattle.disk.specs.declared.Content.{Content}
 use Rattle.disk.specs.declared.Content.TheVariants.{Bytes, Unreadable}
 use Rattle.disk.specs.declared.Cell.{Cell}
 use Rattle.disk.specs.Calls.{Call, reading, writing, flushing}
-use Rattle.disk.specs.Rule.{Allowed, Same, Quiet, Settled, Gains}
+use Rattle.disk.specs.Rule.{Allowed, Same, Settled, Gains}
 use Rattle.disk.specs.Contents.{zeros}
 use Rattle.disk.specs.Losses.{AfterLoss, Blank}
 use Rattle.disk.specs.Settlings.{read_cell, still, no_cell, read_all, MayStand, May, read_answer, write_answer, written, write_at, settle_cell, Went, lost_cell, lost_from, lost, blank_cells}

@@ -1,13 +1,11 @@
 -- The stop keeps the power rule: what it passes on, the disk below keeps; what it refuses changes nothing.
 -- `under` is the disk below a state of the layer, and `left` the calls that are left to it.
-use Rattle.std.specs.Prelude.{◌≡◌, ℕ, suc, ◌+◌, ◌<◌, ◌≤◌, Bool, true, false, ◌||◌, ◌⊎◌, List, length, Ok, Err, Result, ◌==◌, refl}
+use Rattle.std.specs.Prelude.{◌≡◌, ℕ, ◌+◌, Bool, true, false, ◌||◌, List, length, Ok, Err, ◌==◌, refl}
 use Rattle.std.proofs.Common.{sym, ap, subst, ◌∙◌, inl, inr, arith, ltb-true, ltb-false, eqb-true}
 use Rattle.disk.specs.declared.Content.{Content}
-use Rattle.disk.specs.declared.Content.TheVariants.{Bytes, Unreadable}
-use Rattle.disk.specs.declared.DiskFault.{DiskFault}
 use Rattle.disk.specs.declared.DiskFault.TheVariants.{PowerGone, NoSuchBlock}
-use Rattle.disk.specs.Calls.{Call, reading, writing, flushing, good, cut, failed}
-use Rattle.disk.specs.Rule.{Allowed, Same, Quiet, Gains}
+use Rattle.disk.specs.Calls.{Call, reading, writing, flushing, good}
+use Rattle.disk.specs.Rule.{Allowed, Same, Quiet}
 use Rattle.disk.specs.Stops.{stop_gone, Misnumbered, CutAt, Stopped}
 use Rattle.disk.specs.Views.{quiet_up, same_up, settled_up}
 

@@ -1,14 +1,14 @@
 -- The parts of a block and its bytes, there and back.
-use Rattle.std.proofs.Common.{◌≡◌, ℕ, zero, suc, ◌+◌, ◌*◌, ◌/◌, ◌%◌, ◌^◌, ◌<◌, ◌≤◌, List, [], ◌∷◌, ◌++◌, map, length, get_or, ℤ, pos, negsuc, sym, refl, ap, ◌∙◌, subst, mod-lt, arith, lit<, w32, SFits, to_z, of_z}
+use Rattle.std.proofs.Common.{◌≡◌, ℕ, zero, suc, ◌+◌, ◌*◌, ◌/◌, ◌%◌, ◌^◌, ◌<◌, List, [], ◌∷◌, ◌++◌, get_or, ℤ, pos, negsuc, sym, refl, ap, ◌∙◌, mod-lt, arith, lit<, w32, SFits}
 use native.Mathlib.Nat.{div-div-eq-div-mul}
 use lib.Arith.{digits_div, digits_mod}
-use Rattle.std.specs.List.{range_with_len, AllByRecursion as All}
+use Rattle.std.specs.List.{AllByRecursion as All}
 use Rattle.std.proofs.lemmas.List.FromFn.{fill_by_all}
 use Rattle.std.proofs.lemmas.Int.{to_z-of_z, of_z-to_z}
 use Rattle.boundary.specs.declared.Point.{Point}
 use Rattle.records.specs.declared.Fields.{Fields}
 use Rattle.records.specs.declared.Block.{Block}
-use Rattle.records.specs.Blocks.{two, four, complement, signed, laid, laid_fields, laid_point, parts, two_at, four_at, fields_at, point_at}
+use Rattle.records.specs.Blocks.{two, four, complement, signed, laid, laid_fields, laid_point, parts, two_at, four_at}
 use Rattle.records.specs.Laws.{IsBlock}
 
 -- the number of two bytes

@@ -1,5 +1,5 @@
 -- An edit and its kind, fields and point, there and back.
-use Rattle.std.proofs.Common.{◌≡◌, ℕ, ◌^◌, ◌<◌, ◌≤◌, Bool, true, false, cond, ◌&&◌, ◌||◌, eqb, ltb, leb, ◌⊎◌, ℤ, pos, negsuc, sym, refl, ap, ◌∙◌, subst, inl, inr, arith, lit<, lit≤, w32, SFits}
+use Rattle.std.proofs.Common.{◌≡◌, ℕ, ◌^◌, ◌<◌, ◌≤◌, Bool, true, false, cond, ◌&&◌, ◌||◌, eqb, ltb, leb, ◌⊎◌, ℤ, pos, negsuc, sym, refl, ap, subst, inl, inr, arith, lit<, lit≤, w32, SFits}
 use Rattle.std.proofs.lemmas.Bool.{and_parts, cases_eq, cases_Bool, or_cases, eqb-true, ltb-true, lt-ltb, false≢true}
 use Rattle.boundary.specs.declared.Point.{Point}
 use Rattle.boundary.specs.declared.Edit.{Edit}

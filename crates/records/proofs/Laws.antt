@@ -1,5 +1,5 @@
 -- The laws of encoding and decoding.
-use Rattle.std.proofs.Common.{◌≡◌, ℕ, ◌^◌, ◌<◌, ◌≤◌, Bool, true, false, cond, ◌&&◌, ◌||◌, eqb, leb, ◌⊎◌, List, get_or, Some, None, Option, sym, refl, ap, ◌∙◌, subst, inl, inr, arith, lit<}
+use Rattle.std.proofs.Common.{◌≡◌, ℕ, ◌<◌, ◌≤◌, Bool, true, false, cond, ◌&&◌, ◌||◌, eqb, leb, ◌⊎◌, List, get_or, Some, None, sym, refl, ap, ◌∙◌, subst, inl, inr, arith, lit<}
 use Rattle.std.proofs.lemmas.Bool.{and_parts, eqb-true, leb-true, le-leb}
 use Rattle.boundary.specs.declared.Point.{Point}
 use Rattle.boundary.specs.declared.Edit.{Edit}
@@ -9,9 +9,9 @@ use Rattle.records.specs.declared.Block.{Block}
 use Rattle.records.specs.declared.Record.{Record}
 use Rattle.records.specs.declared.Record.TheVariants.{Change, Closing}
 use Rattle.records.specs.Blocks.{laid, parts, two_at, four_at, fields_at, point_at}
-use Rattle.records.specs.Laws.{Fit, Numbered, IsBlock, IsRecord, Parted, RecordsStand}
-use Rattle.records.specs.Records.{five, origin, kind_of, block_of, bytes_of, used_fields, has_point, zero_past, is_origin, rest_zero, numbered, edit_of, is_change, is_closing, meaning, record_of}
-use Rattle.records.proofs.Bytes.{Small, Sized, laid_parts, parts_laid, laid_block}
+use Rattle.records.specs.Laws.{Fit, Numbered, IsBlock, Parted, RecordsStand}
+use Rattle.records.specs.Records.{block_of, bytes_of, used_fields, has_point, zero_past, is_origin, rest_zero, numbered, edit_of, is_change, is_closing, meaning, record_of}
+use Rattle.records.proofs.Bytes.{Small, laid_parts, parts_laid, laid_block}
 use Rattle.records.proofs.Bytes.{fields_small as read_small}
 use Rattle.records.proofs.Decoding.{meant, change_meant, closing_meant}
 use Rattle.records.proofs.Edits.{kind_back, fields_back, point_back, first_same, point_same, edit_back, kind_bounds, fields_small, edit_near, origin_near}

@@ -1,7 +1,7 @@
 -- A record of the journal as a block: kinds 1 to 10 are the operators, 100 closes a batch, and what a kind does not use is zero.
 --     bytes_of r    the 32 bytes of the record r
 --     record_of bs  the record that the bytes bs are, if they are one
-use Rattle.std.specs.Prelude.{ℕ, Bool, true, false, cond, ◌&&◌, ◌||◌, List, ℤ, pos, negsuc, Some, None, Option, ◌==◌, nat_le}
+use Rattle.std.specs.Prelude.{ℕ, Bool, false, cond, ◌&&◌, ◌||◌, List, ℤ, pos, negsuc, Some, None, Option, ◌==◌, nat_le}
 use Rattle.boundary.specs.declared.Point.{Point}
 use Rattle.boundary.specs.declared.Edit.{Edit}
 use Rattle.boundary.specs.declared.Edit.TheVariants.{Mvfs, Kvfs, Mev, Kev, Mef, Kef, Kemr, Mekr, Kfmrh, Move}

@@ -3,7 +3,7 @@ use Rattle.std.proofs.Common.{ℕ, ◌<◌, List, Some, Option, sym, refl, inr}
 use Rattle.boundary.specs.declared.Point.{Point}
 use Rattle.boundary.specs.declared.Edge.{Edge}
 use Rattle.boundary.specs.declared.Boundary.{Boundary}
-use Rattle.boundary.specs.Tables.{start, owner, lone}
+use Rattle.boundary.specs.Tables.{start, owner}
 use Rattle.boundary.specs.Operators.{mev_before}
 use Rattle.rules.specs.Rules.{Has, Used, Sound}
 use Rattle.rules.proofs.OneEdgeMore.{LoopsFor, grown_sound, loops_more, vertices_more, edges_more, new_edge_is}

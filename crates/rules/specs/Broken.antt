@@ -1,5 +1,5 @@
 -- Small tables, each of which breaks one rule: no rule is true of everything.
-use Rattle.std.specs.Prelude.{ℕ, List, [], ◌∷◌, pos, Some, None, Option}
+use Rattle.std.specs.Prelude.{List, [], ◌∷◌, pos, Some, None, Option}
 use Rattle.boundary.specs.declared.Point.{Point}
 use Rattle.boundary.specs.declared.Edge.{Edge}
 use Rattle.boundary.specs.declared.Loop.{Loop}

@@ -4,14 +4,14 @@
 --     Along b l hs v      where hs has a half-edge it is the ring of l, and where it is empty v is lone on l
 --     At b a l hs v       the place a is on the loop l, v is its vertex, and hs is the ring from a on, which is empty at a lone vertex
 --     Else b b' ls        every loop that is not among ls has the ring or the lone vertex that it had
-use Rattle.std.specs.Prelude.{◌≡◌, ℕ, ◌+◌, ◌*◌, ◌<◌, ◌≤◌, cond, ◌≢◌, ◌⊎◌, ◌↔◌, List, [], ◌∷◌, ◌++◌, Some, None, ◌==◌}
+use Rattle.std.specs.Prelude.{◌≡◌, ℕ, ◌+◌, ◌*◌, ◌<◌, ◌≤◌, cond, ◌≢◌, ◌⊎◌, List, [], ◌∷◌, ◌++◌, Some, None, ◌==◌}
 use Rattle.std.specs.List.{ContainsAt as In}
 use Rattle.boundary.specs.declared.Point.{Point}
 use Rattle.boundary.specs.declared.Boundary.{Boundary}
 use Rattle.boundary.specs.Tables.{row, start, next, owner, mate, lone, outer_of}
 use Rattle.boundary.specs.Operators.{mvfs, kvfs, face_in, mev, kev, mef, kef, kemr, mekr, kfmrh, move}
 use Rattle.boundary.specs.Refusals.{mvfs_refusal, mev_refusal, kev_refusal, mef_refusal, kef_refusal, kemr_refusal, mekr_refusal}
-use Rattle.rules.specs.Rules.{Used, Sound}
+use Rattle.rules.specs.Rules.{Used}
 
 -- f leads along hs, and from its last to k
 abbrev pub LeadsTo : (ℕ → ℕ) → List ℕ → ℕ → Type 0

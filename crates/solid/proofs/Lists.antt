@@ -5,7 +5,7 @@ use Rattle.boundary.specs.declared.Boundary.{Boundary}
 use Rattle.boundary.specs.declared.Edit.{Edit}
 use Rattle.boundary.specs.Operators.{empty}
 use Rattle.boundary.specs.Refusals.{after}
-use Rattle.rules.specs.Histories.{after_all, handles_made, StaysSound}
+use Rattle.rules.specs.Histories.{after_all, handles_made}
 use Rattle.rules.specs.Rules.{Sound}
 use Rattle.rules.proofs.Histories.{stays_sound}
 

@@ -4,7 +4,7 @@ use native.Mathlib.Nat.{sub-zero}
 use Rattle.std.proofs.lemmas.List.{take_all, drop_all, drop_more, drop-drop, take_rest, length-take-le, length-drop}
 use Rattle.std.proofs.lemmas.List.Sums.{prefix_len-le-length}
 use Rattle.std.specs.List.{prefix_len}
-use Rattle.words.specs.Words.{onto, cut, lines, filled, words, Part, placed, tokens, number}
+use Rattle.words.specs.Words.{onto, cut, lines, filled, words, placed, tokens, number}
 
 -- how many bytes stand before the first c
 abbrev pub before : ℕ → List ℕ → ℕ

@@ -1,4 +1,4 @@
-use Rattle.std.proofs.Common.{◌≡◌, sym, ◌∙◌}
+use Rattle.std.proofs.Common.{sym, ◌∙◌}
 use Rattle.listing.specs.Listing.{lies_on}
 use Rattle.listing.proofs.Steps.{smallest_yes, smallest_no, smallest_past}
 use Rattle.listing.proofs.first_half.Goals as goal

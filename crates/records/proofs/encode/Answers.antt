@@ -1,7 +1,6 @@
-use Rattle.std.proofs.Common.{◌≡◌, ℕ, List, Some, ap, ◌∙◌}
+use Rattle.std.proofs.Common.{◌≡◌, ℕ, List, ap, ◌∙◌}
 use Rattle.records.specs.declared.Record.{Record}
 use Rattle.records.specs.Blocks.{laid}
-use Rattle.records.specs.Laws.{Fit}
 use Rattle.records.specs.Records.{block_of, bytes_of, record_of}
 use Rattle.records.proofs.Laws.{round}
 use Rattle.records.proofs.encode.Goals as goal

@@ -1,4 +1,4 @@
-use Rattle.std.proofs.Common.{◌≡◌, length, sym, ap, ◌∙◌, arith, length-set}
+use Rattle.std.proofs.Common.{length, sym, ap, ◌∙◌, arith, length-set}
 use Rattle.disk.specs.Settlings.{lost_cell, no_cell, read_all, May}
 use Rattle.disk.proofs.Losses.{after_under}
 use Rattle.disk.specs.SettlingsLemmas.{lost_more, lost_end, lost_after, nth_is, nth_none}

@@ -1,4 +1,4 @@
-use Rattle.std.proofs.Common.{◌≡◌, length, sym, ap, ◌∙◌, arith, length-set}
+use Rattle.std.proofs.Common.{length, sym, ap, ◌∙◌, arith, length-set}
 use Rattle.disk.specs.Settlings.{settle_cell, no_cell}
 use Rattle.disk.specs.SettlingsLemmas.{settle_more, settle_end, nth_is, nth_none}
 use Rattle.disk.proofs.Settling.settle.Goals as goal

@@ -1,4 +1,4 @@
-use Rattle.std.proofs.Common.{sym, ◌∙◌, arith}
+use Rattle.std.proofs.Common.{sym, arith}
 use Rattle.solid.proofs.Searches.{search_goes, search_finds, search_ends}
 use Rattle.solid.proofs.rows.first_part.Goals as goal
 

@@ -1,4 +1,3 @@
-use Rattle.std.proofs.Common.{arith}
 use Rattle.solid.proofs.Runs.{owning_starts, owning_goes, owning_meets, owning_ends}
 use Rattle.solid.proofs.rows.own_run.Goals as goal
 
