@@ -1,11 +1,10 @@
 -- One more step done, in a loop over the steps.
-use Rattle.std.proofs.Common.{◌≡◌, ℕ, ◌+◌, ◌<◌, ◌≤◌, List, [], ◌∷◌, ◌++◌, map, length, get_or, take, set, sym, refl, ap, ◌∙◌, subst}
+use Rattle.std.proofs.Common.{◌≡◌, ℕ, ◌+◌, ◌<◌, ◌≤◌, List, [], ◌∷◌, map, length, get_or, take, set, sym, ap, ◌∙◌, subst}
 use Rattle.std.proofs.lemmas.List.{take_more_set, take_all, map-append, map-set, set-get_or}
 use Rattle.disk.specs.Calls.{Call}
 use Rattle.disk.specs.Chains.{Chain}
 use Rattle.disk.proofs.Chains.{then_one}
 use Rattle.bench.specs.declared.Step.{Step}
-use Rattle.bench.specs.declared.Answer.{Answer}
 use Rattle.bench.specs.Steps.{call_of, calls_of}
 
 pub calls_more : {S : Type 0} (did : S → Call → S → Type 0) (d e z : S) (ss : List Step) (i : ℕ) (y : Step) → i < length ss

@@ -1,5 +1,5 @@
 -- The calls that a list of steps makes.
-use Rattle.std.specs.Prelude.{ℕ, List, map, replicate, Ok, Err, Result}
+use Rattle.std.specs.Prelude.{List, map, replicate, Ok, Err, Result}
 use Rattle.disk.specs.declared.Content.{Content}
 use Rattle.disk.specs.declared.Content.TheVariants.{Unreadable}
 use Rattle.disk.specs.declared.DiskFault.{DiskFault}
