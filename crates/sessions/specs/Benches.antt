@@ -23,7 +23,7 @@ may_of s = May s.disk.cells.cells
 
 -- a call of the settling disk
 abbrev pub below : Settling Memory → Call → Settling Memory → Type 0
-below s c t = Went s.cells.cells c t.cells.cells × (◌≡◌ {A = ℕ} 0 0)
+below s c t = Went s.cells.cells c t.cells.cells
 
 abbrev pub did_of : Make → Call → Make → Type 0
 did_of s c t = Stopped (λ u. read_all u.cells.cells) below s.disk s.left c t.disk t.left
