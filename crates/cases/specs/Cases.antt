@@ -1,5 +1,5 @@
 -- Worked cases of the solid, the journal and sessions, as one list.
-use Rattle.std.specs.Prelude.{◌≡◌, ℕ, List, [], ◌∷◌, ◌++◌, length, replicate, ℤ, pos, Some, None, codes, Option}
+use Rattle.std.specs.Prelude.{◌≡◌, ℕ, List, [], ◌∷◌, ◌++◌, length, replicate, pos, Some, None, codes, Option}
 use Prim.Native.String.{String}
 use Rattle.boundary.specs.declared.Edit.{Edit}
 use Rattle.boundary.specs.declared.Edit.TheVariants.{Mvfs, Mef, Kemr, Mekr, Kfmrh, Move}

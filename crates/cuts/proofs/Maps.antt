@@ -1,5 +1,5 @@
 -- Calls, chains of calls, appends and readings seen through a map of states.
-use Rattle.std.proofs.Common.{◌≡◌, ℕ, List, [], ◌∷◌, Ok, Err, Result, sym, refl, ap, ◌∙◌, inl, inr}
+use Rattle.std.proofs.Common.{ℕ, List, Ok, Err, Result, ap, inl, inr}
 use Rattle.disk.specs.declared.Content.{Content}
 use Rattle.disk.specs.Calls.{Call}
 use Rattle.disk.specs.Chains.{Chain, none, first}

@@ -1,5 +1,5 @@
 -- A reading and an append go on with the life of a journal.
-use Rattle.std.proofs.Common.{◌≡◌, ℕ, suc, ◌+◌, ◌<◌, ◌≤◌, min, Bool, true, List, [], ◌∷◌, ◌++◌, length, get_or, take, Some, None, Ok, Err, Option, Result, sym, refl, ap, ◌∙◌, subst, arith}
+use Rattle.std.proofs.Common.{◌≡◌, ℕ, suc, ◌+◌, ◌<◌, ◌≤◌, Bool, List, [], ◌∷◌, ◌++◌, length, get_or, take, None, Ok, Err, Option, Result, sym, ap, ◌∙◌, subst, arith}
 use Rattle.std.proofs.lemmas.List.{length_push}
 use Rattle.boundary.specs.declared.Boundary.{Boundary}
 use Rattle.boundary.specs.declared.Edit.{Edit}
@@ -8,21 +8,19 @@ use Rattle.disk.specs.declared.Content.{Content}
 use Rattle.disk.specs.declared.Content.TheVariants.{Unreadable}
 use Rattle.disk.specs.declared.DiskFault.{DiskFault}
 use Rattle.disk.specs.Calls.{Call, reading}
-use Rattle.disk.specs.Chains.{Chain}
 use Rattle.disk.specs.Rule.{Allowed}
 use Rattle.faults.specs.declared.SolidFault.{SolidFault}
 use Rattle.faults.specs.declared.JournalFault.{JournalFault}
 use Rattle.faults.specs.declared.JournalFault.TheVariants.{Disk, NoEdits, Full, BadSize, Unfit}
 use Rattle.standing.specs.Batches.{blocks, InRange}
-use Rattle.standing.specs.Standing.{standing}
-use Rattle.standing.specs.Openings.{Found, applied_all, position_of, outcome, opening}
+use Rattle.standing.specs.Openings.{Found, applied_all, position_of, outcome}
 use Rattle.standing.specs.Plans.{served_reads, plan, Carried}
 use Rattle.standing.specs.Journals.{Reads, Appendable, Kept, looked, appended, cut}
 use Rattle.standing.proofs.Layouts.{few_blocks, blocks_more}
 use Rattle.standing.proofs.Journals.{kept_left}
 use Rattle.journal.specs.declared.Extent.{Extent}
 use Rattle.journal.specs.Readings.{Failed, Looked}
-use Rattle.journal.specs.Appends.{Appends, no_edits, no_room, carried, next_number, append_answer, extended}
+use Rattle.journal.specs.Appends.{Appends, no_edits, no_room, carried, next_number, append_answer}
 use Rattle.journal.specs.Lives.{ExtentOf, Reads-on, AppendsOn}
 
 reads_served : (k : ℕ) (cs : List Content) → Reads (served_reads k cs)

@@ -1,10 +1,10 @@
 -- A reader, one block on.
-use Rattle.std.proofs.Common.{◌≡◌, ℕ, suc, ◌+◌, ◌<◌, ◌≤◌, Bool, true, false, cond, ◌&&◌, eqb, ltb, List, [], ◌∷◌, ◌++◌, map, length, get_or, take, is_ok, Some, None, Ok, Err, Option, Result, sym, refl, ap, ◌∙◌, subst, append_assoc, append-nil, arith, lt-ltb, eq-eqb}
+use Rattle.std.proofs.Common.{◌≡◌, ℕ, suc, ◌+◌, ◌<◌, Bool, true, false, cond, eqb, ltb, List, [], ◌∷◌, ◌++◌, map, length, get_or, take, is_ok, Some, Ok, Err, Option, Result, sym, refl, ap, ◌∙◌, subst, append_assoc, append-nil, arith, lt-ltb, eq-eqb}
 use Rattle.std.proofs.lemmas.List.{length_push, take_more, map-append, length-take-le}
 use Rattle.boundary.specs.declared.Edit.{Edit}
 use Rattle.boundary.specs.Operators.{empty}
 use Rattle.records.specs.declared.Record.{Record}
-use Rattle.records.specs.declared.Record.TheVariants.{Change, Closing}
+use Rattle.records.specs.declared.Record.TheVariants.{Change}
 use Rattle.disk.specs.declared.Content.{Content}
 use Rattle.disk.specs.declared.Content.TheVariants.{Unreadable}
 use Rattle.disk.specs.declared.DiskFault.{DiskFault}
@@ -21,7 +21,7 @@ use Rattle.standing.specs.Plans.{served_reads}
 use Rattle.journal.specs.declared.Reader.{Reader}
 use Rattle.journal.specs.declared.Draft.{Draft}
 use Rattle.journal.specs.Drafts.{drafted, with_edit}
-use Rattle.journal.specs.Readings.{to_find, found_so_far, Within, Advanced, Starts, HoldsJournal, Failed}
+use Rattle.journal.specs.Readings.{to_find, found_so_far, Advanced, Starts, HoldsJournal, Failed}
 
 -- served reads of the blocks from k on, and more behind them
 reads_append : (k : ℕ) (xs ys : List Content) → served_reads k (xs ++ ys) ≡ served_reads k xs ++ served_reads (k + length xs) ys

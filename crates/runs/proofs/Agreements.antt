@@ -1,5 +1,5 @@
 -- The ledger and the session agree, through every call and every loss.
-use Rattle.std.proofs.Common.{◌≡◌, ℕ, zero, suc, ◌+◌, ◌<◌, ◌≤◌, Bool, true, false, cond, not, ◌&&◌, ◌||◌, ltb, leb, ◌⊎◌, List, [], ◌∷◌, ◌++◌, length, get_or, take, is_some, Some, None, Ok, Err, Option, Result, sym, refl, ap, ◌∙◌, subst, inl, inr, ⊎_elim, append-nil, arith, le-ltb, lt-ltb, le-leb}
+use Rattle.std.proofs.Common.{◌≡◌, ℕ, ◌+◌, ◌<◌, ◌≤◌, Bool, true, false, cond, ltb, leb, ◌⊎◌, List, [], ◌∷◌, ◌++◌, length, get_or, take, Some, None, Ok, Err, Option, Result, sym, refl, ap, ◌∙◌, subst, inl, inr, ⊎_elim, arith, le-ltb, lt-ltb, le-leb}
 use borrow.Author.Tests.{lt-leb}
 use Rattle.std.proofs.lemmas.List.{length_push, length-take-le}
 use Rattle.boundary.specs.declared.Boundary.{Boundary}
@@ -10,7 +10,7 @@ use Rattle.boundary.specs.Refusals.{refusal, after}
 use Rattle.disk.specs.declared.Content.{Content}
 use Rattle.disk.specs.declared.Content.TheVariants.{Unreadable}
 use Rattle.disk.specs.declared.DiskFault.{DiskFault}
-use Rattle.disk.specs.declared.DiskFault.TheVariants.{PowerGone, NoSuchBlock}
+use Rattle.disk.specs.declared.DiskFault.TheVariants.{PowerGone}
 use Rattle.disk.specs.Calls.{Call as DiskCall, reading}
 use Rattle.disk.specs.Rule.{Allowed}
 use Rattle.disk.specs.Losses.{AfterLoss, Blank}
@@ -23,7 +23,7 @@ use Rattle.faults.specs.declared.SessionFault.{SessionFault}
 use Rattle.faults.specs.declared.SessionFault.TheVariants.{FromJournal, FromSolid}
 use Rattle.rules.specs.Histories.{after_all}
 use Rattle.standing.specs.Batches.{blocks, all_edits, Accepted}
-use Rattle.standing.specs.Standing.{standing, settled}
+use Rattle.standing.specs.Standing.{settled}
 use Rattle.standing.specs.Openings.{outcome}
 use Rattle.standing.specs.Plans.{Step as Plan, served, served_reads, as_call, settle, plan, Carried}
 use Rattle.standing.specs.Journals.{Kept, blank, lost}
@@ -40,7 +40,7 @@ use Rattle.journal.specs.Lives.{ExtentOf, Reads-on, AppendsOn}
 use Rattle.journal.proofs.Lives.{reads_on, appends_on, numbered, same_plan}
 use Rattle.session.specs.declared.Session.{Session}
 use Rattle.session.specs.declared.Batch.{Batch}
-use Rattle.session.specs.Sessions.{Opens, opened, answered, Begins, BatchOf, Edits, fault_first, seventeenth, refused, joined, Commits, faulted, appended, committed, kept_fault}
+use Rattle.session.specs.Sessions.{Opens, opened, answered, BatchOf, Edits, fault_first, seventeenth, refused, joined, Commits, faulted, appended, committed}
 use Rattle.runs.specs.declared.Phase.{Phase}
 use Rattle.runs.specs.declared.Phase.TheVariants.{Idle, Opened, Editing}
 use Rattle.runs.specs.declared.Call.{Call}
@@ -50,7 +50,7 @@ use Rattle.runs.specs.declared.Reply.TheVariants.{NotNow, Done, Shown, Placed, K
 use Rattle.runs.specs.declared.Step.{Step}
 use Rattle.runs.specs.Ledgers as ledgers
 use Rattle.runs.specs.Ledgers.{Ledger, Stage, idle, in_session, in_batch, nothing, built, joins, roomy, drops, with_edit, after_call, after_loss, first_cut}
-use Rattle.runs.specs.Laws.{OpenCalls, all_read, read_cut, CommitCalls, all_served, cut_at, dropped, not_dropped, Made, foretold, Promised, Right, open_told, edit_told, commit_told, carried_told, told_20, Runs, start, by_call, by_loss}
+use Rattle.runs.specs.Laws.{all_read, read_cut, all_served, cut_at, dropped, not_dropped, Made, foretold, Promised, edit_told, commit_told, carried_told, told_20, Runs, start, by_call, by_loss}
 use Rattle.runs.specs.Steps.{Stepped, Turned, disk_of, open_reply, edit_reply, commit_reply}
 use Rattle.runs.proofs.Cuts.{uncut_reads, uncut_served, cut_last, step_cut, read_gone, none_served}
 use Rattle.runs.proofs.Promises.{not_some, open_promise, commit_promise}

@@ -1,9 +1,9 @@
 -- Which disk calls were answered 20, and what that says of the power.
-use Rattle.std.proofs.Common.{◌≡◌, ℕ, ◌+◌, ◌<◌, Bool, true, false, List, [], ◌∷◌, ◌++◌, length, Some, None, Ok, Err, Option, sym, refl, ap, ◌∙◌, arith}
+use Rattle.std.proofs.Common.{◌≡◌, ℕ, ◌+◌, ◌<◌, Bool, true, List, [], ◌∷◌, ◌++◌, length, Some, None, Ok, Err, Option, refl, ap, ◌∙◌, arith}
 use Rattle.disk.specs.declared.Content.{Content}
 use Rattle.disk.specs.declared.DiskFault.{DiskFault}
 use Rattle.disk.specs.declared.DiskFault.TheVariants.{PowerGone}
-use Rattle.disk.specs.Calls.{Call, reading, cut}
+use Rattle.disk.specs.Calls.{Call, reading}
 use Rattle.disk.specs.Chains.{Chain, none, first}
 use Rattle.disk.specs.Rule.{Allowed}
 use Rattle.disk.proofs.Rules as rules

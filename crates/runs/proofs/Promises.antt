@@ -1,11 +1,9 @@
 -- What is promised follows from the replies that the ledger foretells.
-use Rattle.std.proofs.Common.{◌≡◌, ℕ, ◌+◌, ◌<◌, ◌≤◌, Bool, true, false, cond, not, ◌&&◌, ◌||◌, ltb, leb, ◌↔◌, List, [], ◌∷◌, ◌++◌, length, Some, None, Option, sym, refl, ap, ◌∙◌, subst, arith, ltb-false, ltb-true, leb-false, leb-true}
+use Rattle.std.proofs.Common.{◌≡◌, ℕ, ◌+◌, ◌≤◌, Bool, true, false, ltb, leb, List, [], ◌∷◌, ◌++◌, length, Some, None, Option, sym, refl, ap, ◌∙◌, subst, arith, ltb-false, ltb-true, leb-false, leb-true}
 use Rattle.std.proofs.lemmas.List.{length_push}
 use Rattle.boundary.specs.declared.Edit.{Edit}
-use Rattle.boundary.specs.Operators.{empty}
 use Rattle.disk.specs.declared.DiskFault.{DiskFault}
 use Rattle.faults.specs.declared.SessionFault.{SessionFault}
-use Rattle.rules.specs.Histories.{handles_made}
 use Rattle.rules.specs.Rules.{Sound}
 use Rattle.rules.proofs.Histories.{stays_sound}
 use Rattle.solid.specs.declared.Solid.{Solid}
@@ -13,7 +11,7 @@ use Rattle.standing.specs.Batches.{blocks, all_edits}
 use Rattle.runs.specs.declared.Reply.{Reply}
 use Rattle.runs.specs.declared.Reply.TheVariants.{Shown, Kept, Refused}
 use Rattle.runs.specs.Ledgers.{Ledger, Stage, in_batch, built}
-use Rattle.runs.specs.Laws.{open_told, commit_told, told_20, OpenPromise, CommitPromise}
+use Rattle.runs.specs.Laws.{open_told, commit_told, OpenPromise, CommitPromise}
 
 pub not_some : {A : Type 0} {x : A} {o : Option A} → o ≡ None → o ≡ Some x → ⊥
 not_some p q = let z : ◌≡◌ {A = ℕ} 0 1 = cc in omega arith

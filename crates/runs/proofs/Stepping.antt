@@ -1,5 +1,5 @@
 -- From what the code did to the step that it is.
-use Rattle.std.proofs.Common.{◌≡◌, ℕ, List, Result, sym, refl, ap, ◌∙◌, subst}
+use Rattle.std.proofs.Common.{◌≡◌, ℕ, List, Result, sym, refl, subst}
 use Rattle.boundary.specs.declared.Edit.{Edit}
 use Rattle.disk.specs.declared.Content.{Content}
 use Rattle.disk.specs.Calls.{Call as DiskCall}

@@ -1,5 +1,5 @@
 -- What opens is what was acknowledged: the law over every list of calls and every loss of power.
-use Rattle.std.specs.Prelude.{◌≡◌, ℕ, ◌+◌, ◌<◌, ◌≤◌, Bool, true, false, cond, ◌↔◌, List, [], ◌∷◌, ◌++◌, length, take, Some, None, Err, Option, nat_le, nat_lt, slice_index_or}
+use Rattle.std.specs.Prelude.{◌≡◌, ℕ, ◌+◌, ◌<◌, ◌≤◌, true, false, cond, ◌↔◌, List, [], ◌∷◌, ◌++◌, length, take, Some, None, Err, Option, nat_le, nat_lt, slice_index_or}
 use Rattle.boundary.specs.declared.Edit.{Edit}
 use Rattle.boundary.specs.declared.Refusal.{Refusal}
 use Rattle.boundary.specs.Operators.{empty}

@@ -6,7 +6,6 @@ use Rattle.boundary.specs.declared.Refusal.{Refusal}
 use Rattle.boundary.specs.Refusals.{refusal, after}
 use Rattle.disk.specs.declared.Content.{Content}
 use Rattle.disk.specs.Calls.{Call}
-use Rattle.faults.specs.declared.SolidFault.{SolidFault}
 use Rattle.faults.specs.declared.SolidFault.TheVariants.{Refused, TooMany}
 use Rattle.faults.specs.declared.JournalFault.{JournalFault}
 use Rattle.faults.specs.declared.JournalFault.TheVariants.{Disk, NoEdits, Full, BadSize, Unfit}

@@ -1,6 +1,5 @@
 -- The law over lists of calls, said of a settling disk behind a stop.
-use Rattle.std.specs.Prelude.{◌≡◌, ℕ, List}
-use Rattle.disk.specs.declared.Cell.{Cell}
+use Rattle.std.specs.Prelude.{ℕ, List}
 use Rattle.disk.specs.declared.Content.{Content}
 use Rattle.disk.specs.declared.Settling.{Settling}
 use Rattle.disk.specs.declared.Stop.{Stop}

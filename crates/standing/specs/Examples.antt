@@ -1,6 +1,6 @@
 -- Blocks of small journals, and what stands in them.
 --     Worked  what they come to
-use Rattle.std.specs.Prelude.{◌≡◌, ℕ, List, [], ◌∷◌, pos, slice_set}
+use Rattle.std.specs.Prelude.{◌≡◌, ℕ, [], ◌∷◌, pos, slice_set}
 use Rattle.boundary.specs.declared.Edit.{Edit}
 use Rattle.boundary.specs.declared.Edit.TheVariants.{Mvfs}
 use Rattle.disk.specs.declared.Content.{Content}

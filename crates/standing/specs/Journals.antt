@@ -1,5 +1,5 @@
 -- The life of a journal: batches are appended one behind the other, blocks are read, and the power is lost, any number of times.
-use Rattle.std.specs.Prelude.{◌≡◌, ℕ, ◌+◌, ◌≤◌, List, [], ◌∷◌, ◌++◌, length, Some, None, Ok, Err, Option, Result}
+use Rattle.std.specs.Prelude.{◌≡◌, ℕ, ◌+◌, ◌≤◌, List, [], ◌∷◌, ◌++◌, length, Some, None, Ok, Err, Option}
 use Rattle.boundary.specs.declared.Edit.{Edit}
 use Rattle.disk.specs.declared.Content.{Content}
 use Rattle.disk.specs.declared.DiskFault.{DiskFault}

@@ -2,7 +2,6 @@
 use Rattle.std.specs.Prelude.{ℕ, ◌+◌, List, [], ◌∷◌, map, length, Some, None, Ok, Err, Option, Result}
 use Rattle.boundary.specs.declared.Boundary.{Boundary}
 use Rattle.boundary.specs.declared.Edit.{Edit}
-use Rattle.boundary.specs.declared.Refusal.{Refusal}
 use Rattle.boundary.specs.Operators.{empty}
 use Rattle.boundary.specs.Refusals.{refusal, after}
 use Rattle.disk.specs.declared.Content.{Content}

@@ -1,5 +1,5 @@
 -- What the blocks of a disk hold while batches are kept on it. `reads d` says what each block reads, `may d k c` that the content c may stand in block k after the power is lost.
-use Rattle.std.specs.Prelude.{◌≡◌, ℕ, ◌+◌, ◌<◌, ◌≤◌, ◌⊎◌, List, [], ◌∷◌, ◌++◌, length, Some, None, Option, slice_index_or}
+use Rattle.std.specs.Prelude.{◌≡◌, ℕ, ◌+◌, ◌<◌, ◌≤◌, ◌⊎◌, List, length, Some, None, Option, slice_index_or}
 use Rattle.boundary.specs.declared.Edit.{Edit}
 use Rattle.disk.specs.declared.Content.{Content}
 use Rattle.records.specs.declared.Record.{Record}

@@ -1,5 +1,5 @@
 -- What stands in a journal: the whole batches from the first block on.
-use Rattle.std.specs.Prelude.{◌≡◌, ℕ, ◌+◌, Bool, true, false, cond, ◌&&◌, List, [], ◌∷◌, ◌++◌, map, length, Some, None, Option, ◌==◌, nat_lt, slice_index_or}
+use Rattle.std.specs.Prelude.{◌≡◌, ℕ, ◌+◌, Bool, false, cond, ◌&&◌, List, [], ◌∷◌, ◌++◌, map, length, Some, None, Option, ◌==◌, nat_lt, slice_index_or}
 use Rattle.boundary.specs.declared.Edit.{Edit}
 use Rattle.disk.specs.declared.Content.{Content}
 use Rattle.disk.specs.declared.Content.TheVariants.{Bytes, Unreadable}

@@ -1,5 +1,5 @@
 -- The counts follow the ledger, through every call and every loss.
-use Rattle.std.proofs.Common.{◌≡◌, ℕ, ◌+◌, ◌<◌, ◌≤◌, min, Bool, true, false, cond, not, ◌&&◌, ltb, leb, List, [], ◌∷◌, ◌++◌, length, get_or, is_some, Some, None, Option, unwrap_or, sym, refl, ap, ◌∙◌, subst, arith, ltb-true, leb-true}
+use Rattle.std.proofs.Common.{◌≡◌, ℕ, ◌+◌, ◌<◌, ◌≤◌, Bool, true, false, cond, not, ◌&&◌, ltb, leb, List, [], ◌∷◌, ◌++◌, length, get_or, is_some, Some, None, Option, unwrap_or, sym, refl, ap, ◌∙◌, subst, arith, ltb-true, leb-true}
 use Rattle.std.proofs.lemmas.List.{length_push}
 use Rattle.std.specs.Option.{option_map}
 use Rattle.boundary.specs.declared.Edit.{Edit}
@@ -13,12 +13,12 @@ use Rattle.faults.specs.declared.JournalFault.TheVariants.{Full, NoEdits}
 use Rattle.faults.specs.declared.SessionFault.TheVariants.{FromJournal, FromSolid}
 use Rattle.rules.specs.Histories.{after_all}
 use Rattle.standing.specs.Batches.{blocks}
-use Rattle.standing.specs.Standing.{record_in, closes, settled}
+use Rattle.standing.specs.Standing.{record_in, closes}
 use Rattle.standing.proofs.Layouts.{blocks_more, few_blocks}
 use Rattle.runs.specs.declared.Call.{Call}
 use Rattle.runs.specs.declared.Call.TheVariants.{Open, Begin, Apply, Commit, Abandon, Close, Lose}
 use Rattle.runs.specs.declared.Reply.{Reply}
-use Rattle.runs.specs.declared.Reply.TheVariants.{NotNow, Done, Shown, Placed, Kept, Refused}
+use Rattle.runs.specs.declared.Reply.TheVariants.{Placed, Kept, Refused}
 use Rattle.runs.specs.Ledgers.{Ledger, Stage, idle, in_session, in_batch, built, staged, carried, after_at, after_call, after_loss}
 use Rattle.runs.specs.Laws.{open_told, draft_told, carried_told, foretold}
 use Rattle.tally.specs.declared.Tally.{Tally}

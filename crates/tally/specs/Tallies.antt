@@ -1,8 +1,7 @@
 -- The ledger in counts, as it is kept from the replies of a run and from what each loss of power left.
-use Rattle.std.specs.Prelude.{ℕ, ◌+◌, min, Bool, true, false, cond, List, length, get_or, is_some, Some, None, Option}
+use Rattle.std.specs.Prelude.{ℕ, ◌+◌, min, Bool, true, false, cond, length, is_some, Some, None, Option}
 use Rattle.std.specs.Option.{option_map, unwrap_or}
 use Rattle.disk.specs.declared.Content.{Content}
-use Rattle.faults.specs.declared.JournalFault.{JournalFault}
 use Rattle.faults.specs.declared.JournalFault.TheVariants.{Disk, NoEdits, Full, BadSize, Unfit}
 use Rattle.faults.specs.declared.SessionFault.{SessionFault}
 use Rattle.faults.specs.declared.SessionFault.TheVariants.{FromJournal, FromSolid}

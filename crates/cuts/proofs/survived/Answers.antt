@@ -1,4 +1,4 @@
-use Rattle.std.proofs.Common.{◌≡◌, replicate, ap, subst}
+use Rattle.std.proofs.Common.{replicate, ap, subst}
 use Rattle.disk.specs.Settlings.{Went, read_all}
 use Rattle.journal.specs.Readings.{Looked}
 use Rattle.cuts.specs.Cuts.{Appended}

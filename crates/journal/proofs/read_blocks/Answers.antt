@@ -1,4 +1,4 @@
-use Rattle.std.proofs.Common.{◌≡◌, ◌<◌, length, get_or, sym, refl, ap, ◌∙◌, subst, arith}
+use Rattle.std.proofs.Common.{◌≡◌, ◌<◌, length, get_or, refl, ap, ◌∙◌, subst, arith}
 use Rattle.std.proofs.lemmas.List.{take_all}
 use Rattle.std.proofs.lemmas.Result.{err_from_is_err_and}
 use Rattle.disk.specs.declared.Content.TheVariants.{Unreadable}
@@ -6,7 +6,7 @@ use Rattle.disk.specs.Chains.{Chain, none}
 use Rattle.disk.proofs.Chains.{then_one}
 use Rattle.standing.specs.Openings.{opening}
 use Rattle.standing.specs.Plans.{served_reads}
-use Rattle.journal.specs.Readings.{HoldsJournal, found_so_far}
+use Rattle.journal.specs.Readings.{found_so_far}
 use Rattle.journal.proofs.Reading.{starts, seen_more, read_more, seen_opening, seen_ok, read_cut, failed_at}
 use Rattle.journal.proofs.read_blocks.Goals as goal
 

@@ -1,4 +1,4 @@
-use Rattle.std.proofs.Common.{◌≡◌, Ok, Err, refl, ap}
+use Rattle.std.proofs.Common.{Ok, Err, refl, ap}
 use Rattle.session.specs.Sessions.{faulted, appended}
 use Rattle.session.proofs.Batch.commit.Goals as goal
 

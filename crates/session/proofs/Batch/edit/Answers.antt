@@ -1,4 +1,4 @@
-use Rattle.std.proofs.Common.{◌≡◌, Err, refl, ap, ◌∙◌}
+use Rattle.std.proofs.Common.{Err, refl, ap, ◌∙◌}
 use Rattle.boundary.specs.Refusals.{refusal}
 use Rattle.faults.specs.declared.SolidFault.TheVariants.{Refused}
 use Rattle.faults.specs.declared.SessionFault.TheVariants.{FromSolid}

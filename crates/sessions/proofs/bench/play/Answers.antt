@@ -1,5 +1,5 @@
 use Rattle.std.proofs.Common.{◌≡◌, replicate, ap, ◌∙◌}
-use Rattle.sessions.specs.Benches.{Make, first_disk}
+use Rattle.sessions.specs.Benches.{first_disk}
 use Rattle.sessions.proofs.Starts.{law_at}
 use Rattle.sessions.proofs.bench.play.Goals as goal
 
