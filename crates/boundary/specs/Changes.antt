@@ -1,6 +1,6 @@
 -- The changes that the operators are made of. Each gives the whole boundary afterwards.
---     put-shell, put-face, put-loop, put-edge, put-vertex b k x   the row k becomes x, and is used
---     clear-shell, clear-face, clear-loop, clear-edge, clear-vertex b k   the row k is unused
+--     put_shell, put_face, put_loop, put_edge, put_vertex b k x   the row k becomes x, and is used
+--     clear_shell, clear_face, clear_loop, clear_edge, clear_vertex b k   the row k is unused
 --     led b h x       what led to h leads to x
 --     owned b hs l    the half-edges hs lie on the loop l
 --     joined b l m    the half-edges on the loop l lie on the loop m

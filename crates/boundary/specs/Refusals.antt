@@ -1,5 +1,5 @@
 -- Which edits are refused, and why: out of range comes first, then the use of something unused, then the making of something used, then the operator's own condition.
---     in-range e      every number of the edit e is in its range
+--     in_range e      every number of the edit e is in its range
 --     refusal b e     why the boundary b refuses the edit e, if it does
 --     after b e       the boundary after the edit e, which is as before where it is refused
 --     answer o        what a caller is answered

@@ -1,7 +1,7 @@
 -- What a line of tokens asks for.
 --     operator w         the operator whose name is w
 --     arity o            how many numbers it takes
---     edit-by o ns       its edit with the numbers ns: those of the fields, in their order, and then x, y and z
+--     edit_by o ns       its edit with the numbers ns: those of the fields, in their order, and then x, y and z
 --     numbers n ts       the numbers of n tokens
 --     edit o ts          the edit that the tokens behind the name ask for
 --     asked t ts         what a line asks for whose tokens are t and ts

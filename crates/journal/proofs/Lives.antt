@@ -21,7 +21,7 @@ use Rattle.standing.proofs.Journals.{kept_left}
 use Rattle.journal.specs.declared.Extent.{Extent}
 use Rattle.journal.specs.Readings.{Failed, Looked}
 use Rattle.journal.specs.Appends.{Appends, no_edits, no_room, carried, next_number, append_answer}
-use Rattle.journal.specs.Lives.{ExtentOf, Reads-on, AppendsOn}
+use Rattle.journal.specs.Lives.{ExtentOf, ReadsOn, AppendsOn}
 
 reads_served : (k : ℕ) (cs : List Content) → Reads (served_reads k cs)
 reads_served k [] = tt
@@ -65,7 +65,7 @@ module _ {S : Type 0} (reads : S → List Content) (may : S → ℕ → Content 
   failed_on {bs} {q} (BadSize n) z k h = subst (Kept reads may did d bs q) (sym h.2) k
   failed_on {bs} {q} {e} (Unfit b f) z k h = looked _ k (reads_served 0 (take (h.1 + 1) (reads e))) h.5
 
-  pub reads_on : {e : S} (b : Boundary) (r : Result Extent JournalFault) (z : S) → Looked reads did e b r z → (bs : List (List Edit)) (q : Option (List Edit)) → Kept reads may did d bs q e → Reads-on reads may did d bs q b r z
+  pub reads_on : {e : S} (b : Boundary) (r : Result Extent JournalFault) (z : S) → Looked reads did e b r z → (bs : List (List Edit)) (q : Option (List Edit)) → Kept reads may did d bs q e → ReadsOn reads may did d bs q b r z
   reads_on {e} b (Ok x) z h bs q k = record {
     goes_on = looked _ k (reads_served 0 (reads e)) h.0.calls;
     shows = λ sure y is.

@@ -20,7 +20,7 @@ pub record ExtentOf (n : ℕ) (bs : List (List Edit)) (x : Extent) : Type 0 wher
 
 module _ {S : Type 0} (reads : S → List Content) (may : S → ℕ → Content → Type 0) (did : S → Call → S → Type 0) where
   -- A reading goes on with the life. Where no append has been cut since the last loss and no read is, it answers the extent of the batches kept and the solid that they build.
-  pub record Reads-on (d : S) (bs : List (List Edit)) (q : Option (List Edit)) (b : Boundary) (r : Result Extent JournalFault) (z : S) : Type 0 where
+  pub record ReadsOn (d : S) (bs : List (List Edit)) (q : Option (List Edit)) (b : Boundary) (r : Result Extent JournalFault) (z : S) : Type 0 where
     pub goes_on : Kept reads may did d bs q z
     pub shows : q ≡ None → (x : Extent) → r ≡ Ok x → ExtentOf (length (reads d)) bs x × (outcome 0 0 empty bs ≡ Ok (record { boundary = b; batches = length bs; tail = blocks bs }))
 

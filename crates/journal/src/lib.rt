@@ -4,7 +4,7 @@
 ghost use Rattle.std.specs.Prelude.{◌≡◌, ◌<◌, ◌≤◌, false, List, [], length, Some, None, Ok, Err, Option};
 ghost use Rattle.journal.specs.Appends.{Appends};
 ghost use Rattle.journal.specs.Drafts.{drafted, push_answer, with_edit};
-ghost use Rattle.journal.specs.Lives.{AppendsOn, ExtentOf, Reads-on};
+ghost use Rattle.journal.specs.Lives.{AppendsOn, ExtentOf, ReadsOn};
 ghost use Rattle.journal.specs.Readings.{Advanced, Applied, Looked, Read, Starts, Within};
 ghost use Rattle.boundary.specs.declared.Edit.{Edit};
 ghost use Rattle.standing.specs.Batches.{InRange};
@@ -225,7 +225,7 @@ fn read_blocks<D: Disk>(disk: &mut D) -> Result<Reader, JournalFault>
 // Reads what stands on a disk: the solid that its whole batches build, and the extent. After a refusal the solid is empty.
 pub fn read<D: Disk>(disk: &mut D) -> (Solid, Result<Extent, JournalFault>)
     ensures is { Looked D.Disk.reads D.Disk.did disk.old result.0.boundary result.1 disk.new }
-    ensures life { (d : D) (bs : List (List Edit)) (q : Option (List Edit)) → length (D.Disk.reads d) ≤ 1000 → Kept D.Disk.reads D.Disk.may D.Disk.did d bs q disk.old → Reads-on D.Disk.reads D.Disk.may D.Disk.did d bs q result.0.boundary result.1 disk.new }
+    ensures life { (d : D) (bs : List (List Edit)) (q : Option (List Edit)) → length (D.Disk.reads d) ≤ 1000 → Kept D.Disk.reads D.Disk.may D.Disk.did d bs q disk.old → ReadsOn D.Disk.reads D.Disk.may D.Disk.did d bs q result.0.boundary result.1 disk.new }
 {
     match read_blocks(disk) {
         Ok(reader) => (reader.solid, Ok(reader.extent)),

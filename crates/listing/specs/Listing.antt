@@ -1,6 +1,6 @@
 -- A boundary as text, in bytes: a line of the counts, and then a line for each used row. A line is a letter and then words, each after one space, and ends with a line feed.
 --     words ws       the words ws to the end of a line
---     counts-line, vertex-line, edge-line, face-line, loop-line    the line of the counts, and of the row k of each table
+--     counts_line, vertex_line, edge_line, face_line, loop_line    the line of the counts, and of the row k of each table
 --     lines text t   the lines of the used rows of the table t, by rising number
 --     ring b h       the half-edges of the ring from h on
 --     place b l o    the words of where the loop l lies, whose lone vertex is o

@@ -2,7 +2,7 @@
 --     Fit r          the record r is one that the journal writes
 --     IsBlock bs     the list bs is 32 bytes
 --     IsRecord bs r  the block bs is the record r, and numbered as a record is
---     Records-stand  the laws
+--     RecordsStand  the laws
 use Rattle.std.specs.Prelude.{◌≡◌, ℕ, ◌^◌, ◌<◌, ◌≤◌, true, List, length, Some, slice_index}
 use Rattle.boundary.specs.Refusals.{in_range}
 use Rattle.records.specs.declared.Block.{Block}

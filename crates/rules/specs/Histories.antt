@@ -1,7 +1,7 @@
 -- Lists of edits from the empty boundary on.
---     after-all b es       the boundary after the edits es, of which each refused one changes nothing
---     new-handles b e      1 where b accepts e and e is a kfmrh with both faces in one shell, else 0
---     handles-made b es    how many edits of the list make a handle so
+--     after_all b es       the boundary after the edits es, of which each refused one changes nothing
+--     new_handles b e      1 where b accepts e and e is a kfmrh with both faces in one shell, else 0
+--     handles_made b es    how many edits of the list make a handle so
 --     StaysSound           every list of edits leaves a sound boundary, whose handles are those that the list made
 use Rattle.std.specs.Prelude.{◌≡◌, ℕ, ◌+◌, cond, List, [], ◌∷◌, Some, None, Option, ◌==◌}
 use Rattle.boundary.specs.declared.Boundary.{Boundary}

@@ -36,7 +36,7 @@ use Rattle.journal.specs.declared.Extent.{Extent}
 use Rattle.journal.specs.Drafts.{drafted}
 use Rattle.journal.specs.Readings.{Looked, Failed}
 use Rattle.journal.specs.Appends.{Appends, no_edits, no_room, carried, next_number, append_answer, extended}
-use Rattle.journal.specs.Lives.{ExtentOf, Reads-on, AppendsOn}
+use Rattle.journal.specs.Lives.{ExtentOf, ReadsOn, AppendsOn}
 use Rattle.journal.proofs.Lives.{reads_on, appends_on, numbered, same_plan}
 use Rattle.session.specs.declared.Session.{Session}
 use Rattle.session.specs.declared.Batch.{Batch}
@@ -191,7 +191,7 @@ module _ {S : Type 0} (reads : S → List Content) (may : S → ℕ → Content 
         sure : q ≡ None
         sure = sure_by q g.doubt (reads d) (omega (arith, count)) h.0.calls
 
-        on : Reads-on reads may did d₀ a q b (Ok x) e
+        on : ReadsOn reads may did d₀ a q b (Ok x) e
         on = reads_on reads may gone did stands keeps d₀ hi b (Ok x) e h a q g.kept
 
         shown : ExtentOf n a x × (outcome 0 0 empty a ≡ Ok (record { boundary = b; batches = length a; tail = blocks a }))

@@ -1,6 +1,6 @@
 -- What is left of an input and of a line that is being read.
 --     lines_left i     the lines that are left of the input i
---     tokens-left l    the tokens that are left of the line l
+--     tokens_left l    the tokens that are left of the line l
 --     words_left l     their texts
 --     part t           the token t as a part of its line: its place, text and value
 --     text_of t        its text
