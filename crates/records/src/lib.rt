@@ -6,7 +6,7 @@ ghost use Rattle.boundary.specs.Operators.{named};
 ghost use Rattle.records.specs.Blocks.{laid, laid_fields, laid_point, two_at, four_at, signed, fields_at, point_at};
 ghost use Rattle.records.specs.Examples.{Worked};
 ghost use Rattle.records.specs.Laws.{Fit, IsRecord, Parted, RecordsStand};
-ghost use Rattle.records.specs.Records.{five, kind_of, fields_of, point_of, origin, block_of, bytes_of, used_fields, has_point, zero_past, is_origin, rest_zero, edit_of, numbered, record_of};
+ghost use Rattle.records.specs.Records.{five, kind_of, fields_of, point_of, block_of, bytes_of, used_fields, has_point, zero_past, is_origin, rest_zero, edit_of, numbered, record_of};
 ghost use Rattle.records.specs.declared.Record.{Record};
 
 use boundary::{Edit, Point};

@@ -1,5 +1,4 @@
 // A bench that supplies the disks of a run: one settling disk, behind a new stop after each loss of power.
-ghost use Rattle.std.specs.Prelude.{◌≡◌};
 ghost use Rattle.sessions.specs.Benches.{Law, first_disk};
 
 use disk::{Cell, Cells, Settling, Stop};

@@ -2,9 +2,9 @@
 ghost use Rattle.std.specs.Prelude.{◌≡◌, ◌<◌, is_some, Some};
 ghost use Rattle.std.specs.Option.{unwrap_or};
 ghost use Rattle.boundary.specs.Changes.{put_lone, emptied, led};
-ghost use Rattle.boundary.specs.Operators.{half_edge, mvfs, kvfs, face_in, mev, mev_before, mev_lone, kev, mef, past, spliced, kef, cut_off, kemr, led_place, onward, mekr, connected, kfmrh, move};
+ghost use Rattle.boundary.specs.Operators.{half_edge, mvfs, kvfs, face_in, mev, mev_before, mev_lone, kev, mef, past, spliced, kef, kemr, led_place, onward, mekr, connected, kfmrh, move};
 ghost use Rattle.boundary.specs.Refusals.{mvfs_refusal, kvfs_refusal, mev_refusal, kev_refusal, mef_refusal, kef_refusal, kemr_refusal, mekr_refusal, kfmrh_refusal, move_refusal, place_used, has_vertex, are_joinable};
-ghost use Rattle.boundary.specs.Tables.{row, lone, outer_of, loop_face, face_shell, loop_shell, place_loop, place_vertex};
+ghost use Rattle.boundary.specs.Tables.{row, lone, outer_of, loop_face, face_shell, place_loop, place_vertex};
 ghost use Rattle.solid.specs.Steps.{Decided};
 
 use crate::Solid;
