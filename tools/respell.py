@@ -4,7 +4,8 @@
 usage: python3 tools/respell.py [TOP]      TOP is the top of a checkout, if not this one
 
 It turns whole names: in .antt and .rt files and must-fail edits outside comments and strings, and in code spans of .md files.
-Labels that Rattle makes of a loop (`c.loop-row`) stay.
+Labels that Rattle makes of a loop (`c.loop-row`) stay. Run it once: it also turns labels that are spelled like a name of
+the table, and `c.blank-cells` (cuts) and `w.next-is` (bench) were put back by hand afterwards.
 """
 
 import os
