@@ -2,7 +2,7 @@
 #![tactic(auto)]
 
 ghost use Rattle.std.specs.Prelude.{◌≡◌};
-ghost use Rattle.boundary.specs.Operators.{empty};
+ghost use Rattle.boundary.specs.Operators.{empty, named};
 ghost use Rattle.boundary.specs.Refusals.{code};
 ghost use Rattle.boundary.specs.Tables.{row, half_in};
 
@@ -17,7 +17,7 @@ pub const EDGES: usize = 192;
 pub const VERTICES: usize = 128;
 
 // A point in whole 1/256 mm.
-#[derive(Clone, Copy)]
+#[derive(Clone, Copy, PartialEq, Eq, Debug)]
 pub struct Point {
     pub x: i32,
     pub y: i32,
@@ -25,7 +25,7 @@ pub struct Point {
 }
 
 // The vertex that a half-edge starts at, the half-edge after it in its ring, and the loop that it lies on.
-#[derive(Clone, Copy)]
+#[derive(Clone, Copy, Default)]
 pub struct HalfEdge {
     pub start: u16,
     pub next: u16,
@@ -58,11 +58,11 @@ pub struct Shell;
 // A row that is `None` is unused. `handles` counts the handles made so far.
 #[derive(Clone, Copy)]
 pub struct Boundary {
-    pub shells: [Option<Shell>; 8],
-    pub faces: [Option<Face>; 96],
-    pub loops: [Option<Loop>; 96],
-    pub edges: [Option<Edge>; 192],
-    pub vertices: [Option<Point>; 128],
+    pub shells: [Option<Shell>; SHELLS],
+    pub faces: [Option<Face>; FACES],
+    pub loops: [Option<Loop>; LOOPS],
+    pub edges: [Option<Edge>; EDGES],
+    pub vertices: [Option<Point>; VERTICES],
     pub handles: u32,
 }
 
@@ -128,30 +128,24 @@ pub enum Edit {
     },
 }
 
-// Why an edit is refused.
+// Why an edit is refused, with the number by which a user is told of it.
 #[derive(Clone, Copy, PartialEq, Eq, Debug)]
 pub enum Refusal {
     // a number or a coordinate out of its range
-    OutOfRange,
-    // it names something unused
-    Unused,
+    OutOfRange = 1,
     // it makes something used
-    Taken,
+    Taken = 2,
+    // it names something unused
+    Unused = 3,
     // it breaks the operator's condition
-    Condition,
+    Condition = 4,
 }
 
 impl Refusal {
-    // The number by which a user is told of it.
     pub fn number(self) -> u8
         ensures { result ≡ code self }
     {
-        match self {
-            Refusal::OutOfRange => 1,
-            Refusal::Taken => 2,
-            Refusal::Unused => 3,
-            Refusal::Condition => 4,
-        }
+        self as u8
     }
 }
 
@@ -159,25 +153,25 @@ impl Refusal {
 pub fn row<T: Copy>(rows: &[Option<T>], k: u16) -> Option<T>
     ensures { result ≡ row rows.now k }
 {
-    if (k as usize) < rows.len() {
-        rows[k as usize]
-    } else {
-        None
-    }
+    rows.get(k as usize).copied().flatten()
 }
 
 // The half-edge `h` of a table of edges; an unused one reads as zeros.
 pub fn half(edges: &[Option<Edge>], h: u16) -> HalfEdge
     ensures { result ≡ half_in edges.now h }
 {
-    let Some(edge) = row(edges, h / 2) else {
-        return HalfEdge {
-            start: 0,
-            next: 0,
-            owner: 0,
-        };
-    };
-    if h % 2 == 0 { edge.even } else { edge.odd }
+    match row(edges, h / 2) {
+        Some(edge) if h % 2 == 0 => edge.even,
+        Some(edge) => edge.odd,
+        None => HalfEdge::default(),
+    }
+}
+
+// The number that a field of an edit names; one that no table is long enough for names 0.
+pub fn named(field: i32) -> u16
+    ensures { result ≡ named field }
+{
+    u16::try_from(field).unwrap_or(0)
 }
 
 impl Boundary {
@@ -186,11 +180,11 @@ impl Boundary {
         ensures { result ≡ empty }
     {
         Boundary {
-            shells: [None; 8],
-            faces: [None; 96],
-            loops: [None; 96],
-            edges: [None; 192],
-            vertices: [None; 128],
+            shells: [None; SHELLS],
+            faces: [None; FACES],
+            loops: [None; LOOPS],
+            edges: [None; EDGES],
+            vertices: [None; VERTICES],
             handles: 0,
         }
     }
