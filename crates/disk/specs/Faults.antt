@@ -2,6 +2,7 @@
 use Rattle.std.specs.Prelude.{ℕ}
 use Rattle.disk.specs.declared.Layer.{Layer}
 use Rattle.disk.specs.declared.Layer.TheVariants.{Disk}
+use Rattle.disk.specs.declared.Told.{Told}
 use Rattle.disk.specs.declared.DiskFault.{DiskFault}
 use Rattle.disk.specs.declared.DiskFault.TheVariants.{PowerGone, NoSuchBlock}
 
@@ -19,3 +20,6 @@ fault_layer (NoSuchBlock p) = Disk
 abbrev pub fault_place : DiskFault → ℕ
 fault_place (PowerGone p) = p
 fault_place (NoSuchBlock p) = p
+
+abbrev pub disk_told : DiskFault → Told
+disk_told fault = record { number = fault_number fault; layer = fault_layer fault; place = fault_place fault }

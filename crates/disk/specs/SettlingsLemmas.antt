@@ -1,43 +1,37 @@
 -- The settling disk keeps the power rule, and its loss call leaves what the rule allows.
-use Rattle.std.specs.Prelude.{◌≡◌, ℕ, zero, suc, ◌+◌, ◌<◌, ◌≤◌, Bool, true, false, cond, ◌⊎◌, List, [], ◌∷◌, ◌++◌, map, length, get_or, take, drop, set, Some, None, Option, ◌==◌, slice_index, slice_index_or, slice_set, refl}
-use Rattle.std.proofs.Common.{sym, ap, subst, ◌∙◌, inl, inr, arith, add-one}
+use Rattle.std.specs.Prelude.{◌≡◌, ℕ, zero, suc, ◌+◌, ◌<◌, ◌≤◌, Bool, true, false, cond, ◌⊎◌, List, [], ◌∷◌, ◌++◌, map, length, get_or, take, drop, set, Some, None, Ok, Err, Option, ◌==◌, slice_index, slice_index_or, slice_set, refl}
+use Rattle.std.proofs.Common.{sym, ap, subst, ◌∙◌, inl, inr, arith}
 use Rattle.std.proofs.Math.Decide.{ℕ_discrete}
-use Rattle.std.proofs.lemmas.List.{append-nil, append_assoc, take_all, drop_all, take_more, drop_more, set_at, get_or_at, length-take-le, get_or-set_same, get_or-set_other, map-set, length-map, length-set, set_past, length-replicate, get_or-replicate, replicate_more}
+use Rattle.std.proofs.lemmas.List.{append-nil, append_assoc, take_all, drop_all, take_more, drop_more, set_at, get_or_at, length-take-le, get_or-set_same, get_or-set_other, map-set, length-map, length-set, set_past, length-replicate, get_or-replicate}
 use Rattle.std.proofs.lemmas.Option.{slice_get-get_or}
 use Rattle.std.specs.List.{slice_get}
+use Rattle.std.specs.Option.{unwrap_or, ok_or}
 use Rattle.disk.specs.declared.Content.{Content}
 use Rattle.disk.specs.declared.Content.TheVariants.{Bytes, Unreadable}
 use Rattle.disk.specs.declared.Cell.{Cell}
+use Rattle.disk.specs.declared.DiskFault.{DiskFault}
+use Rattle.disk.specs.declared.DiskFault.TheVariants.{NoSuchBlock}
 use Rattle.disk.specs.Calls.{Call, reading, writing, flushing}
 use Rattle.disk.specs.Rule.{Allowed, Same, Settled, Gains}
 use Rattle.disk.specs.Contents.{zeros}
 use Rattle.disk.specs.Losses.{AfterLoss, Blank}
-use Rattle.disk.specs.Settlings.{read_cell, still, no_cell, read_all, MayStand, May, read_answer, write_answer, written, write_at, settle_cell, Went, lost_cell, lost_from, lost, blank_cells}
+use Rattle.disk.specs.Settlings.{read_cell, still, no_cell, read_all, MayStand, May, read_answer, write_answer, written, write_at, settle_cell, Went, lost_cell, changed, lost, blank_cells}
 
 pub get_or_map_all : {A B : Type 0} (f : A → B) (xs : List A) (k : ℕ) (d : A) → slice_index_or (map f xs) k (f d) ≡ f (slice_index_or xs k d)
 get_or_map_all f [] k d = refl
 get_or_map_all f (x ∷ xs) zero d = refl
 get_or_map_all f (x ∷ xs) (suc k) d = get_or_map_all f xs k d
 
-never : false ≡ true → ⊥
-never q = let z : ◌≡◌ {A = ℕ} 0 1 = cc in omega arith
-
--- one more cell changed by f, in a loop
-pub mapped_more : {A : Type 0} (f : A → A) (xs : List A) (i : ℕ) (d : A) → i < length xs → slice_set (map f (take i xs) ++ drop i xs) i (f (slice_index_or (map f (take i xs) ++ drop i xs) i d)) ≡ map f (take (suc i) xs) ++ drop (suc i) xs
-mapped_more f [] i d lt = absurd (omega arith)
-mapped_more f (x ∷ xs) zero d lt = refl
-mapped_more f (x ∷ xs) (suc i) d lt = ap (λ l. f x ∷ l) (mapped_more f xs i d (omega arith))
-
 may_read : (a : Cell) → MayStand a (read_cell a)
-may_read a = go a.waiting refl
+may_read a = go a.waiting
   where
-    go : (b : Bool) → a.waiting ≡ b → MayStand a (cond b a.newest a.settled)
-    go true e = inr (e, inl refl)
-    go false e = inl refl
+    go : (w : Option Content) → MayStand (record { settled = a.settled; waiting = w }) (unwrap_or w a.settled)
+    go None = inl refl
+    go (Some newest) = inr (inl refl)
 
 may_still : (x c : Content) → MayStand (still x) c → c ≡ x
 may_still x c (inl e) = e
-may_still x c (inr w) = absurd (never w.0)
+may_still x c (inr w) = absurd w
 
 settle_reads : (cs : List Cell) → map read_cell (map settle_cell cs) ≡ map read_cell cs
 settle_reads [] = refl
@@ -56,6 +50,15 @@ pub nth_none : {X : Type 0} (xs : List X) (k : ℕ) → slice_get xs k ≡ None 
 nth_none [] k e = omega arith
 nth_none (y ∷ xs) zero e = let z : ◌≡◌ {A = ℕ} 0 1 = cc in absurd (omega arith)
 nth_none (y ∷ xs) (suc k) e = let h = nth_none xs k e in omega arith
+
+-- a write to block k, by what its `?` found there
+pub write_refused : (cs : List Cell) (k : ℕ) (bs : List ℕ) (o : Option Cell) (fault : DiskFault) → ok_or o (NoSuchBlock k) ≡ Err fault → o ≡ slice_get cs k → (Err fault ≡ write_answer k (slice_get cs k)) × (cs ≡ write_at cs k bs)
+write_refused cs k bs None fault e at = let q : fault ≡ NoSuchBlock k = cc in (ap Err q ∙ ap (write_answer k) at, sym (set_past cs k _ (nth_none cs k (sym at))))
+write_refused cs k bs (Some a) fault e at = let z : ◌≡◌ {A = ℕ} 0 1 = cc in absurd (omega arith)
+
+pub write_served : (cs : List Cell) (k : ℕ) (bs : List ℕ) (o : Option Cell) (fault : DiskFault) (a : Cell) → ok_or o fault ≡ Ok a → o ≡ slice_get cs k → (Ok tt ≡ write_answer k (slice_get cs k)) × (slice_set cs k (written a bs) ≡ write_at cs k bs)
+write_served cs k bs None fault a e at = let z : ◌≡◌ {A = ℕ} 0 1 = cc in absurd (omega arith)
+write_served cs k bs (Some b) fault a e at = (ap (write_answer k) at, ap (λ x. set cs k (written x bs)) (let q : a ≡ b = cc in q ∙ nth_is cs k b (sym at)))
 
 module _ {L : Type 0} (under : L → List Cell) where
   abbrev reads' : L → List Content
@@ -93,7 +96,7 @@ module _ {L : Type 0} (under : L → List Cell) where
 
       here : j ≡ k → MayStand (written (slice_index_or (under x) k no_cell) bs) c → (may' x j c) ⊎ ((j ≡ k) × ((c ≡ Bytes bs) ⊎ (c ≡ Unreadable)))
       here q (inl w) = inl (within, subst (λ i. MayStand (slice_index_or (under x) i no_cell) c) (sym q) (inl w))
-      here q (inr w) = inr (q, w.1)
+      here q (inr w) = inr (q, w)
 
   settled : (x y : L) → under y ≡ map settle_cell (under x) → Settled reads' may' x y
   settled x y e = record {
@@ -114,19 +117,56 @@ module _ {L : Type 0} (under : L → List Cell) where
   settling_keeps x (writing k bs r) y w = subst (λ v. Allowed reads' may' gone' x (writing k bs v) y) (sym w.0) (write_keeps x y k bs (slice_get (under x) k) refl w.1)
   settling_keeps x (flushing r) y w = subst (λ v. Allowed reads' may' gone' x (flushing v) y) (sym w.0) (refl, settled x y w.1)
 
+-- cells that are changed one after the other
+changed_long : (f : ℕ → Cell → Cell) (i : ℕ) (cs : List Cell) → length (changed f i cs) ≡ length cs
+changed_long f i [] = refl
+changed_long f i (a ∷ cs) = ap suc (changed_long f (i + 1) cs)
+
+pub changed_all : (f : Cell → Cell) (i : ℕ) (cs : List Cell) → changed (λ _. f) i cs ≡ map f cs
+changed_all f i [] = refl
+changed_all f i (a ∷ cs) = ap (λ l. f a ∷ l) (changed_all f (i + 1) cs)
+
+changed_append : (f : ℕ → Cell → Cell) (i : ℕ) (xs ys : List Cell) → changed f i (xs ++ ys) ≡ changed f i xs ++ changed f (i + length xs) ys
+changed_append f i [] ys = let z : i + 0 ≡ i = omega arith in rw z
+changed_append f i (x ∷ xs) ys = let z : i + 1 + length xs ≡ i + suc (length xs) = omega arith in ap (λ l. f i x ∷ l) (rw z at (changed_append f (i + 1) xs ys))
+
+-- one more cell changed, in a loop
+pub changed_more : (f : ℕ → Cell → Cell) (xs cs ds : List Cell) (i : ℕ) (d r : Cell) → i < length xs → cs ≡ changed f 0 (take i xs) ++ drop i xs → r ≡ f i (slice_index_or cs i d) → ds ≡ slice_set cs i r → ds ≡ changed f 0 (take (i + 1) xs) ++ drop (i + 1) xs
+changed_more f xs cs ds i d r lt e h s = s ∙ ap (λ v. set v i r) split ∙ set_at (changed f 0 (take i xs)) (slice_index_or xs i d) (drop (i + 1) xs) r i size ∙ ap (λ v. changed f 0 (take i xs) ++ v ∷ drop (i + 1) xs) (h ∙ ap (f i) (ap (λ v. get_or v i d) split ∙ get_or_at (changed f 0 (take i xs)) (slice_index_or xs i d) (drop (i + 1) xs) d i size)) ∙ sym end
+  where
+    short : length (take i xs) ≡ i
+    short = length-take-le i xs (omega arith)
+
+    size : length (changed f 0 (take i xs)) ≡ i
+    size = changed_long f 0 (take i xs) ∙ short
+
+    split : cs ≡ changed f 0 (take i xs) ++ slice_index_or xs i d ∷ drop (i + 1) xs
+    split = e ∙ ap (λ v. changed f 0 (take i xs) ++ v) (drop_more xs i d lt)
+
+    end : changed f 0 (take (i + 1) xs) ++ drop (i + 1) xs ≡ changed f 0 (take i xs) ++ f i (slice_index_or xs i d) ∷ drop (i + 1) xs
+    end =
+        let z : 0 + length (take i xs) ≡ i = omega (arith, short) in
+        ap (λ v. changed f 0 v ++ drop (i + 1) xs) (take_more xs i d lt) ∙ ap (λ v. v ++ drop (i + 1) xs) (changed_append f 0 (take i xs) (slice_index_or xs i d ∷ []))
+        ∙ ap (λ m. (changed f 0 (take i xs) ++ (f m (slice_index_or xs i d) ∷ [])) ++ drop (i + 1) xs) z ∙ append_assoc (changed f 0 (take i xs)) (f i (slice_index_or xs i d) ∷ []) (drop (i + 1) xs)
+
+pub changed_end : (f : ℕ → Cell → Cell) (xs cs : List Cell) (i : ℕ) → length xs ≤ i → cs ≡ changed f 0 (take i xs) ++ drop i xs → cs ≡ changed f 0 xs
+changed_end f xs cs i le e = e ∙ ap (λ l. changed f 0 l ++ drop i xs) (take_all i xs le) ∙ ap (λ l. changed f 0 xs ++ l) (drop_all i xs le) ∙ append-nil (changed f 0 xs)
+
 -- a loss
-lost_long : (ls : List ℕ) (i : ℕ) (cs : List Cell) → length (lost_from ls i cs) ≡ length cs
-lost_long ls i [] = refl
-lost_long ls i (a ∷ cs) = ap suc (lost_long ls (i + 1) cs)
+lost_long : (ls : List ℕ) (cs : List Cell) → length (lost ls cs) ≡ length cs
+lost_long ls cs = changed_long (λ i. lost_cell (slice_index ls i)) 0 cs
+
+abbrev lost_from : List ℕ → ℕ → List Cell → List Cell
+lost_from ls i cs = changed (λ k. lost_cell (slice_index ls k)) i cs
 
 may_lost : (l : ℕ) (a : Cell) → MayStand a (read_cell (lost_cell l a))
-may_lost l a = go a.waiting (l == 110) (l == 117) refl
+may_lost l a = go a.waiting (l == 110) (l == 117)
   where
-    go : (w n u : Bool) → a.waiting ≡ w → MayStand a (cond w (cond n a.newest (cond u Unreadable a.settled)) a.settled)
-    go true true u e = inr (e, inl refl)
-    go true false true e = inr (e, inr refl)
-    go true false false e = inl refl
-    go false n u e = inl refl
+    go : (w : Option Content) (n u : Bool) → MayStand (record { settled = a.settled; waiting = w }) (elim w [ None ↦ a.settled | Some newest ↦ cond n newest (cond u Unreadable a.settled) ])
+    go None n u = inl refl
+    go (Some newest) true u = inr (inl refl)
+    go (Some newest) false true = inr (inr refl)
+    go (Some newest) false false = inl refl
 
 lost_member : (ls : List ℕ) (i : ℕ) (cs : List Cell) (k : ℕ) → MayStand (slice_index_or cs k no_cell) (slice_index_or (read_all (lost_from ls i cs)) k Unreadable)
 lost_member ls i [] k = inl refl
@@ -140,42 +180,10 @@ lost_only ls i (a ∷ cs) (suc k) c m = lost_only ls (i + 1) cs k c m
 
 pub lost_after : (ls : List ℕ) (cs ds : List Cell) → ds ≡ lost ls cs → AfterLoss read_all May cs ds
 lost_after ls cs ds e = subst (AfterLoss read_all May cs) (sym e) (record {
-  count = length-map (lost ls cs) read_cell ∙ lost_long ls 0 cs ∙ sym (length-map cs read_cell);
+  count = length-map (lost ls cs) read_cell ∙ lost_long ls cs ∙ sym (length-map cs read_cell);
   member = λ k lt. (omega (arith, lt, length-map cs read_cell), lost_member ls 0 cs k);
   only = λ k c m. lost_only ls 0 cs k c m.1;
 })
-
--- the loops over the cells
-pub settle_more : (xs cs ds : List Cell) (i : ℕ) (d r : Cell) → i < length xs → cs ≡ map settle_cell (take i xs) ++ drop i xs → r ≡ settle_cell (slice_index_or cs i d) → ds ≡ slice_set cs i r → ds ≡ map settle_cell (take (i + 1) xs) ++ drop (i + 1) xs
-settle_more xs cs ds i d r lt e q s = s ∙ ap (set cs i) q ∙ ap (λ l. set l i (settle_cell (slice_index_or l i d))) e ∙ rw add-one (mapped_more settle_cell xs i d lt)
-
-pub settle_end : (xs cs : List Cell) (i : ℕ) → length xs ≤ i → cs ≡ map settle_cell (take i xs) ++ drop i xs → cs ≡ map settle_cell xs
-settle_end xs cs i le e = e ∙ ap (λ l. map settle_cell l ++ drop i xs) (take_all i xs le) ∙ ap (λ l. map settle_cell xs ++ l) (drop_all i xs le) ∙ append-nil (map settle_cell xs)
-
-lost_append : (ls : List ℕ) (i : ℕ) (xs ys : List Cell) → lost_from ls i (xs ++ ys) ≡ lost_from ls i xs ++ lost_from ls (i + length xs) ys
-lost_append ls i [] ys = let z : i + 0 ≡ i = omega arith in rw z
-lost_append ls i (x ∷ xs) ys = let z : i + 1 + length xs ≡ i + suc (length xs) = omega arith in ap (λ l. lost_cell (slice_index ls i) x ∷ l) (rw z at (lost_append ls (i + 1) xs ys))
-
-pub lost_more : (ls : List ℕ) (xs cs ds : List Cell) (i : ℕ) (d r : Cell) (l : ℕ) → i < length xs → cs ≡ lost ls (take i xs) ++ drop i xs → l ≡ slice_index ls i → r ≡ lost_cell l (slice_index_or cs i d) → ds ≡ slice_set cs i r → ds ≡ lost ls (take (i + 1) xs) ++ drop (i + 1) xs
-lost_more ls xs cs ds i d r l lt e q h s = s ∙ ap (λ v. set v i r) split ∙ set_at (lost ls (take i xs)) (slice_index_or xs i d) (drop (i + 1) xs) r i size ∙ ap (λ v. lost ls (take i xs) ++ v ∷ drop (i + 1) xs) (h ∙ ap (lost_cell l) (ap (λ v. get_or v i d) split ∙ get_or_at (lost ls (take i xs)) (slice_index_or xs i d) (drop (i + 1) xs) d i size) ∙ ap (λ m. lost_cell m (slice_index_or xs i d)) q) ∙ sym end
-  where
-    short : length (take i xs) ≡ i
-    short = length-take-le i xs (omega arith)
-
-    size : length (lost ls (take i xs)) ≡ i
-    size = lost_long ls 0 (take i xs) ∙ short
-
-    split : cs ≡ lost ls (take i xs) ++ slice_index_or xs i d ∷ drop (i + 1) xs
-    split = e ∙ ap (λ v. lost ls (take i xs) ++ v) (drop_more xs i d lt)
-
-    end : lost ls (take (i + 1) xs) ++ drop (i + 1) xs ≡ lost ls (take i xs) ++ lost_cell (slice_index ls i) (slice_index_or xs i d) ∷ drop (i + 1) xs
-    end =
-        let z : 0 + length (take i xs) ≡ i = omega (arith, short) in
-        ap (λ v. lost ls v ++ drop (i + 1) xs) (take_more xs i d lt) ∙ ap (λ v. v ++ drop (i + 1) xs) (lost_append ls 0 (take i xs) (slice_index_or xs i d ∷ []))
-        ∙ ap (λ m. (lost ls (take i xs) ++ (lost_cell (slice_index ls m) (slice_index_or xs i d) ∷ [])) ++ drop (i + 1) xs) z ∙ append_assoc (lost ls (take i xs)) (lost_cell (slice_index ls i) (slice_index_or xs i d) ∷ []) (drop (i + 1) xs)
-
-pub lost_end : (ls : List ℕ) (xs cs : List Cell) (i : ℕ) → length xs ≤ i → cs ≡ lost ls (take i xs) ++ drop i xs → cs ≡ lost ls xs
-lost_end ls xs cs i le e = e ∙ ap (λ l. lost ls l ++ drop i xs) (take_all i xs le) ∙ ap (λ l. lost ls xs ++ l) (drop_all i xs le) ∙ append-nil (lost ls xs)
 
 -- cells that are blank make a blank disk
 pub blank_all : (n : ℕ) (cs : List Cell) → cs ≡ blank_cells n → Blank read_all May cs
@@ -186,12 +194,3 @@ blank_all n cs e = subst (Blank read_all May) (sym e) (record {
   where
     at : (k : ℕ) → k < length (blank_cells n) → slice_index_or (blank_cells n) k no_cell ≡ still zeros
     at k lt = get_or-replicate n k (still zeros) no_cell (omega (arith, lt, length-replicate n (still zeros)))
-
--- one more cell made blank, in a loop
-pub blank_more : (xs cs : List Cell) (i : ℕ) (r : Cell) → i < length xs → cs ≡ blank_cells i ++ drop i xs → r ≡ still zeros → slice_set cs i r ≡ blank_cells (i + 1) ++ drop (i + 1) xs
-blank_more xs cs i r lt e q =
-    ap (λ v. set v i r) (e ∙ ap (λ v. blank_cells i ++ v) (drop_more xs i no_cell lt)) ∙ set_at (blank_cells i) (slice_index_or xs i no_cell) (drop (i + 1) xs) r i (length-replicate i (still zeros))
-    ∙ ap (λ v. blank_cells i ++ v ∷ drop (i + 1) xs) q ∙ sym (append_assoc (blank_cells i) (still zeros ∷ []) (drop (i + 1) xs)) ∙ ap (λ v. v ++ drop (i + 1) xs) (replicate_more i (still zeros))
-
-pub blank_end : (xs cs : List Cell) (i : ℕ) → length xs ≡ i → cs ≡ blank_cells i ++ drop i xs → cs ≡ blank_cells (length xs)
-blank_end xs cs i n e = e ∙ ap (λ v. blank_cells i ++ v) (drop_all i xs (omega arith)) ∙ append-nil (blank_cells i) ∙ ap blank_cells (sym n)

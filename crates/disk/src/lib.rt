@@ -6,12 +6,13 @@ ghost use Rattle.disk.specs.Calls.{Call, flushing, reading, writing};
 ghost use Rattle.disk.specs.Contents.{bytes_of, zeros};
 ghost use Rattle.disk.specs.declared.Cell.{Cell};
 ghost use Rattle.disk.specs.declared.Content.{Content};
+ghost use Rattle.disk.specs.declared.Told.{Told};
 ghost use Rattle.disk.specs.declared.Content.TheVariants.{Unreadable};
 ghost use Rattle.disk.specs.Eithers.{either, EitherDid};
-ghost use Rattle.disk.specs.Faults.{fault_layer, fault_number, fault_place};
+ghost use Rattle.disk.specs.Faults.{disk_told};
 ghost use Rattle.disk.specs.Losses.{AfterLoss, Blank};
 ghost use Rattle.disk.specs.Rule.{Allowed};
-ghost use Rattle.disk.specs.Settlings.{May, Went, blank_cells, lost, lost_cell, read_all, read_cell, settle_cell, still, written};
+ghost use Rattle.disk.specs.Settlings.{May, Went, blank_cells, changed, lost, lost_cell, read_all, read_cell, settle_cell, still, written};
 ghost use Rattle.disk.specs.Stops.{Stopped, counted, found, left_found, stop_gone};
 ghost use Rattle.std.specs.List.{slice_get};
 ghost use Rattle.disk.specs.StopsLemmas.{stop_keeps};
@@ -57,31 +58,52 @@ pub enum DiskFault {
     NoSuchBlock(u32),
 }
 
-impl DiskFault {
-    pub fn number(&self) -> u32
-        ensures { result ≡ fault_number self.now }
+// What a fault tells whoever is answered by it.
+#[derive(Clone, Copy)]
+pub struct Told {
+    pub number: u32,
+    pub layer: Layer,
+    pub place: usize,
+}
+
+// A reason why a call was refused.
+pub trait Fault {
+    ghost told: { Self → Told };
+
+    fn told(&self) -> Told
+        ensures { result ≡ told self.now };
+
+    fn number(&self) -> u32
+        ensures { result ≡ (told self.now).number }
     {
-        match *self {
-            DiskFault::PowerGone(_) => 20,
-            DiskFault::NoSuchBlock(_) => 21,
-        }
+        self.told().number
     }
 
-    pub fn layer(&self) -> Layer
-        ensures { result ≡ fault_layer self.now }
+    fn layer(&self) -> Layer
+        ensures { result ≡ (told self.now).layer }
     {
-        match *self {
-            DiskFault::PowerGone(_) | DiskFault::NoSuchBlock(_) => Layer::Disk,
-        }
+        self.told().layer
     }
 
-    // The block, or 65,535 for a flush.
-    pub fn place(&self) -> u32
-        ensures { result ≡ fault_place self.now }
+    fn place(&self) -> usize
+        ensures { result ≡ (told self.now).place }
     {
-        match *self {
-            DiskFault::PowerGone(place) => place,
-            DiskFault::NoSuchBlock(place) => place,
+        self.told().place
+    }
+}
+
+impl Fault for DiskFault {
+    ghost told = { disk_told };
+
+    fn told(&self) -> Told {
+        let (number, place) = match *self {
+            DiskFault::PowerGone(place) => (20, place as usize),
+            DiskFault::NoSuchBlock(place) => (21, place as usize),
+        };
+        Told {
+            number,
+            layer: Layer::Disk,
+            place,
         }
     }
 }
@@ -243,12 +265,11 @@ impl<A: Disk, B: Disk> Disk for Either<A, B> {
     }
 }
 
-// A block of a settling disk.
+// A block of a settling disk: its settled content, and the newest one where that waits for a flush.
 #[derive(Clone, Copy)]
 pub struct Cell {
     pub settled: Content,
-    pub newest: Content,
-    pub waiting: bool,
+    pub waiting: Option<Content>,
 }
 
 impl Cell {
@@ -258,8 +279,7 @@ impl Cell {
     {
         Cell {
             settled: content,
-            newest: content,
-            waiting: false,
+            waiting: None,
         }
     }
 
@@ -273,11 +293,7 @@ impl Cell {
     fn read(self) -> Content
         ensures { result ≡ read_cell self }
     {
-        if self.waiting {
-            self.newest
-        } else {
-            self.settled
-        }
+        self.waiting.unwrap_or(self.settled)
     }
 
     fn after_write(self, bytes: [u8; 32]) -> Cell
@@ -285,8 +301,7 @@ impl Cell {
     {
         Cell {
             settled: self.settled,
-            newest: Content::Bytes(bytes),
-            waiting: true,
+            waiting: Some(Content::Bytes(bytes)),
         }
     }
 
@@ -299,12 +314,9 @@ impl Cell {
     fn after_loss(self, letter: u8) -> Cell
         ensures { result ≡ lost_cell letter self }
     {
-        if !self.waiting {
-            return Cell::still(self.settled);
-        }
-        match letter {
-            b'n' => Cell::still(self.newest),
-            b'u' => Cell::still(Content::Unreadable),
+        match (self.waiting, letter) {
+            (Some(newest), b'n') => Cell::still(newest),
+            (Some(_), b'u') => Cell::still(Content::Unreadable),
             _ => Cell::still(self.settled),
         }
     }
@@ -315,9 +327,7 @@ pub fn blank(cells: &mut [Cell])
     ensures is { cells.new ≡ blank_cells (length cells.old) }
     ensures blank { Blank read_all May cells.new }
 {
-    for cell in cells.iter_mut() {
-        *cell = Cell::blank();
-    }
+    cells.fill(Cell::blank());
 }
 
 // Cells that somebody owns or lends.
@@ -354,15 +364,11 @@ impl<'a> Cells for Lent<'a> {
     ghost held = { λ s. s.cells.now };
 
     fn len(&self) -> usize {
-        self.cells.len()
+        self.cells.len() // the lender has no others
     }
 
     fn at(&self, k: usize) -> Option<Cell> {
-        if k < self.cells.len() {
-            Some(self.cells[k])
-        } else {
-            None
-        }
+        self.cells.get(k).copied()
     }
 
     fn put(&mut self, k: usize, cell: Cell) {
@@ -372,11 +378,23 @@ impl<'a> Cells for Lent<'a> {
     }
 }
 
-// The letter of block `i`, or 0 where there is none.
-fn letter_at(letters: &[u8], i: usize) -> u8
-    ensures { result ≡ slice_index letters.now i }
-{
-    if i < letters.len() { letters[i] } else { 0 }
+// Cells that are owned.
+impl<const N: usize> Cells for [Cell; N] {
+    ghost held = { λ s. s };
+
+    fn len(&self) -> usize {
+        N // each of them holds a block
+    }
+
+    fn at(&self, k: usize) -> Option<Cell> {
+        self.get(k).copied()
+    }
+
+    fn put(&mut self, k: usize, cell: Cell) {
+        if k < N {
+            self[k] = cell;
+        }
+    }
 }
 
 // A disk over cells: a write stores the newest content, and a flush settles all. It never answers 20.
@@ -401,26 +419,30 @@ impl<C: Cells> Settling<C> {
         below
     }
 
+    // Every cell becomes what `by` makes of its number and of it.
+    fn change_all<F: Fn(usize, Cell) -> Cell>(&mut self, by: F)
+        requires { F.IsAlwaysCallable by }
+        ensures { (f : ℕ → Cell → Cell) → ((k : ℕ) (a r : Cell) → F.post by k a r → r ≡ f k a) → C.Cells.held self.new.cells ≡ changed f 0 (C.Cells.held self.old.cells) }
+    {
+        for k in 0..self.cells.len() {
+            if let Some(cell) = self.cells.at(k) {
+                self.cells.put(k, by(k, cell));
+            }
+        }
+    }
+
     // A loss of power, with a letter a block: at a waiting block n keeps the newest, u makes it unreadable, any other or none keeps the settled. Then nothing waits.
     pub fn lose(&mut self, letters: &[u8])
         ensures is { C.Cells.held self.new.cells ≡ lost letters.now (C.Cells.held self.old.cells) }
         ensures after { AfterLoss (λ s. read_all (C.Cells.held s.cells)) (λ s. May (C.Cells.held s.cells)) self.old self.new }
     {
-        for i in 0..self.cells.len() {
-            if let Some(cell) = self.cells.at(i) {
-                self.cells.put(i, cell.after_loss(letter_at(letters, i)));
-            }
-        }
+        self.change_all(|k, cell| cell.after_loss(letters.get(k).copied().unwrap_or(0)));
     }
 
     fn settle(&mut self)
         ensures { C.Cells.held self.new.cells ≡ map settle_cell (C.Cells.held self.old.cells) }
     {
-        for i in 0..self.cells.len() {
-            if let Some(cell) = self.cells.at(i) {
-                self.cells.put(i, cell.after_flush());
-            }
-        }
+        self.change_all(|_, cell| cell.after_flush());
     }
 }
 
@@ -442,21 +464,15 @@ impl<C: Cells> Disk for Settling<C> {
     }
 
     fn read(&mut self, block: u32) -> Result<Content, DiskFault> {
-        match self.cells.at(block as usize) {
-            Some(cell) => Ok(cell.read()),
-            None => Err(DiskFault::NoSuchBlock(block)),
-        }
+        let cell = self.cells.at(block as usize);
+        cell.map(Cell::read).ok_or(DiskFault::NoSuchBlock(block))
     }
 
     fn write(&mut self, block: u32, bytes: [u8; 32]) -> Result<(), DiskFault> {
         let k = block as usize;
-        match self.cells.at(k) {
-            Some(cell) => {
-                self.cells.put(k, cell.after_write(bytes));
-                Ok(())
-            }
-            None => Err(DiskFault::NoSuchBlock(block)),
-        }
+        let cell = self.cells.at(k).ok_or(DiskFault::NoSuchBlock(block))?;
+        self.cells.put(k, cell.after_write(bytes));
+        Ok(())
     }
 
     fn flush(&mut self) -> Result<(), DiskFault> {

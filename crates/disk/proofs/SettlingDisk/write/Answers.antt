@@ -1,19 +1,14 @@
-use Rattle.std.proofs.Common.{set, sym, ap, ◌∙◌}
-use Rattle.std.proofs.lemmas.List.{set_past}
-use Rattle.disk.specs.Settlings.{write_answer, written}
-use Rattle.disk.specs.SettlingsLemmas.{nth_is, nth_none}
+use Rattle.std.proofs.Common.{sym, ap, ◌∙◌, set}
+use Rattle.std.proofs.lemmas.Result.{err_from_is_err_and}
+use Rattle.disk.specs.SettlingsLemmas.{write_refused, write_served}
 use Rattle.disk.proofs.SettlingDisk.write.Goals as goal
 
-pub returns-in-Some : goal.returns-in-Some
-returns-in-Some g c =
-    let there = c.in-Some.ensures in (
-      ap (write_answer c.args.block) there,
-      c.put.ensures ∙ ap (set (g.C.Cells.held c.args.self.now.cells) c.args.block) (c.after_write.ensures ∙ ap (λ a. written a c.args.bytes) (nth_is (g.C.Cells.held c.args.self.now.cells) c.args.block c.in-Some.cell (sym there))),
-    )
+pub returns-in_err-cell : goal.returns-in_err-cell
+returns-in_err-cell g c =
+    let p = err_from_is_err_and c.from_residual.result c.from_residual.ensures.1 in
+    rw (p.1, p.2) (write_refused (g.C.Cells.held c.args.self.now.cells) c.args.block c.args.bytes c.at.result _ (sym c.ok_or.ensures.value ∙ c.in_err-cell.was) c.at.ensures)
 
-pub returns-in-None : goal.returns-in-None
-returns-in-None g c =
-    let there = c.in-None.ensures in (
-      ap (write_answer c.args.block) there,
-      sym (set_past (g.C.Cells.held c.args.self.now.cells) c.args.block _ (nth_none (g.C.Cells.held c.args.self.now.cells) c.args.block (sym there))),
-    )
+pub returns : goal.returns
+returns g c =
+    let w = write_served (g.C.Cells.held c.args.self.now.cells) c.args.block c.args.bytes c.at.result _ c.in_ok-cell.cell (sym c.ok_or.ensures.value ∙ c.in_ok-cell.was) c.at.ensures in
+    (w.0, c.put.ensures ∙ ap (set (g.C.Cells.held c.args.self.now.cells) c.args.block) c.after_write.ensures ∙ w.1)
