@@ -1,9 +1,7 @@
 -- What a fault tells: its number, the layer it comes from, and its place.
-use Rattle.std.specs.Prelude.{ℕ}
 use Rattle.boundary.specs.Refusals.{code}
-use Rattle.disk.specs.Faults.{fault_number, fault_layer, fault_place}
-use Rattle.disk.specs.declared.DiskFault.{DiskFault}
-use Rattle.disk.specs.declared.Layer.{Layer}
+use Rattle.disk.specs.Faults.{disk_told}
+use Rattle.disk.specs.declared.Told.{Told}
 use Rattle.disk.specs.declared.Layer.TheVariants.{Journal, Solid}
 use Rattle.faults.specs.declared.SolidFault.{SolidFault}
 use Rattle.faults.specs.declared.SolidFault.TheVariants.{Refused, TooMany}
@@ -11,16 +9,6 @@ use Rattle.faults.specs.declared.JournalFault.{JournalFault}
 use Rattle.faults.specs.declared.JournalFault.TheVariants.{Disk, NoEdits, Full, BadSize, Unfit}
 use Rattle.faults.specs.declared.SessionFault.{SessionFault}
 use Rattle.faults.specs.declared.SessionFault.TheVariants.{FromJournal, FromSolid}
-
--- what a fault of any layer tells its reader
-pub record Told : Type 0 where
-  pub number : ℕ
-  pub layer : Layer
-  pub place : ℕ
-
--- a fault of the disk
-abbrev pub disk_told : DiskFault → Told
-disk_told fault = record { number = fault_number fault; layer = fault_layer fault; place = fault_place fault }
 
 -- 1 to 4 as the solid refuses, 5 a seventeenth edit; the place is the position in the batch, which counts from 0
 abbrev pub solid_told : SolidFault → Told

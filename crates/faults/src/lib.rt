@@ -7,10 +7,10 @@ ghost use Rattle.faults.specs.declared.JournalFault.TheVariants.{Disk};
 ghost use Rattle.faults.specs.declared.SessionFault.TheVariants.{FromJournal, FromSolid};
 
 use boundary::Refusal;
-use disk::{DiskFault, Layer};
+use disk::{DiskFault, Fault, Layer, Told};
 
 // How many edits a batch holds at most, and so the position of the first that is too many.
-const MOST: u32 = 16;
+pub const MOST: usize = 16;
 
 // Why an edit did not join a batch.
 #[derive(Clone, Copy)]
@@ -21,31 +21,18 @@ pub enum SolidFault {
     TooMany,
 }
 
-impl SolidFault {
-    pub fn number(&self) -> u32
-        ensures { result ≡ (solid_told self.now).number }
-    {
-        match *self {
-            SolidFault::Refused { why, .. } => u32::from(why.number()),
-            SolidFault::TooMany => 5,
-        }
-    }
+impl Fault for SolidFault {
+    ghost told = { solid_told };
 
-    pub fn layer(&self) -> Layer
-        ensures { result ≡ (solid_told self.now).layer }
-    {
-        match *self {
-            SolidFault::Refused { .. } | SolidFault::TooMany => Layer::Solid,
-        }
-    }
-
-    // The position in the batch.
-    pub fn place(&self) -> u32
-        ensures { result ≡ (solid_told self.now).place }
-    {
-        match *self {
-            SolidFault::Refused { position, .. } => position,
-            SolidFault::TooMany => MOST,
+    fn told(&self) -> Told {
+        let (number, place) = match *self {
+            SolidFault::Refused { why, position } => (u32::from(why.number()), position as usize),
+            SolidFault::TooMany => (5, MOST),
+        };
+        Told {
+            number,
+            layer: Layer::Solid,
+            place,
         }
     }
 }
@@ -73,41 +60,21 @@ impl From<DiskFault> for JournalFault {
     }
 }
 
-impl JournalFault {
-    pub fn number(&self) -> u32
-        ensures { result ≡ (journal_told self.now).number }
-    {
-        match *self {
-            JournalFault::Disk(fault) => fault.number(),
-            JournalFault::NoEdits(_) => 6,
-            JournalFault::Full(_) => 7,
-            JournalFault::BadSize(_) => 10,
-            JournalFault::Unfit(_, _) => 30,
-        }
-    }
+impl Fault for JournalFault {
+    ghost told = { journal_told };
 
-    pub fn layer(&self) -> Layer
-        ensures { result ≡ (journal_told self.now).layer }
-    {
-        match *self {
-            JournalFault::Disk(fault) => fault.layer(),
-            JournalFault::NoEdits(_)
-            | JournalFault::Full(_)
-            | JournalFault::BadSize(_)
-            | JournalFault::Unfit(_, _) => Layer::Journal,
-        }
-    }
-
-    // The tail, the count of blocks, or the block; of a flush 65,535.
-    pub fn place(&self) -> usize
-        ensures { result ≡ (journal_told self.now).place }
-    {
-        match *self {
-            JournalFault::Disk(fault) => fault.place() as usize,
-            JournalFault::NoEdits(tail) => tail as usize,
-            JournalFault::Full(tail) => tail as usize,
-            JournalFault::BadSize(count) => count,
-            JournalFault::Unfit(block, _) => block as usize,
+    fn told(&self) -> Told {
+        let (number, place) = match *self {
+            JournalFault::Disk(fault) => return fault.told(),
+            JournalFault::NoEdits(tail) => (6, tail as usize),
+            JournalFault::Full(tail) => (7, tail as usize),
+            JournalFault::BadSize(count) => (10, count),
+            JournalFault::Unfit(block, _) => (30, block as usize),
+        };
+        Told {
+            number,
+            layer: Layer::Journal,
+            place,
         }
     }
 }
@@ -135,31 +102,13 @@ impl From<SolidFault> for SessionFault {
     }
 }
 
-impl SessionFault {
-    pub fn number(&self) -> u32
-        ensures { result ≡ (session_told self.now).number }
-    {
-        match *self {
-            SessionFault::FromJournal(fault) => fault.number(),
-            SessionFault::FromSolid(fault) => fault.number(),
-        }
-    }
+impl Fault for SessionFault {
+    ghost told = { session_told };
 
-    pub fn layer(&self) -> Layer
-        ensures { result ≡ (session_told self.now).layer }
-    {
+    fn told(&self) -> Told {
         match *self {
-            SessionFault::FromJournal(fault) => fault.layer(),
-            SessionFault::FromSolid(fault) => fault.layer(),
-        }
-    }
-
-    pub fn place(&self) -> usize
-        ensures { result ≡ (session_told self.now).place }
-    {
-        match *self {
-            SessionFault::FromJournal(fault) => fault.place(),
-            SessionFault::FromSolid(fault) => fault.place() as usize,
+            SessionFault::FromJournal(fault) => fault.told(),
+            SessionFault::FromSolid(fault) => fault.told(),
         }
     }
 }
