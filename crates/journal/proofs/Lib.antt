@@ -1,4 +1,3 @@
-pub mod Drafts
 pub mod Applying
 pub mod Reading
 pub mod Writing

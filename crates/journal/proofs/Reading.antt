@@ -1,10 +1,8 @@
 -- A reader, one block on.
-use Rattle.std.proofs.Common.{◌≡◌, ℕ, suc, ◌+◌, ◌<◌, Bool, true, false, cond, eqb, ltb, List, [], ◌∷◌, ◌++◌, map, length, get_or, take, is_ok, Some, Ok, Err, Option, Result, sym, refl, ap, ◌∙◌, subst, append_assoc, append-nil, arith, lt-ltb, eq-eqb}
-use Rattle.std.proofs.lemmas.List.{length_push, take_more, map-append, length-take-le}
-use Rattle.boundary.specs.declared.Edit.{Edit}
+use Rattle.std.proofs.Common.{◌≡◌, ℕ, suc, ◌+◌, ◌<◌, Bool, true, List, [], ◌∷◌, ◌++◌, map, length, get_or, take, is_ok, Some, None, Ok, Err, Option, sym, refl, ap, ◌∙◌, subst, append_assoc, append-nil, arith}
+use Rattle.std.proofs.lemmas.List.{take_more, map-append, length-take-le}
 use Rattle.boundary.specs.Operators.{empty}
 use Rattle.records.specs.declared.Record.{Record}
-use Rattle.records.specs.declared.Record.TheVariants.{Change}
 use Rattle.disk.specs.declared.Content.{Content}
 use Rattle.disk.specs.declared.Content.TheVariants.{Unreadable}
 use Rattle.disk.specs.declared.DiskFault.{DiskFault}
@@ -16,52 +14,25 @@ use Rattle.disk.proofs.Chains.{then_one}
 use Rattle.faults.specs.declared.JournalFault.{JournalFault}
 use Rattle.faults.specs.declared.JournalFault.TheVariants.{Disk, NoEdits, Full, BadSize, Unfit}
 use Rattle.standing.specs.Standing.{record_in, scan}
-use Rattle.standing.specs.Openings.{Found, outcome, found, opening}
+use Rattle.standing.specs.Openings.{outcome, found, opening}
 use Rattle.standing.specs.Plans.{served_reads}
 use Rattle.journal.specs.declared.Reader.{Reader}
-use Rattle.journal.specs.declared.Draft.{Draft}
-use Rattle.journal.specs.Drafts.{drafted, with_edit}
-use Rattle.journal.specs.Readings.{to_find, found_so_far, Advanced, Starts, HoldsJournal, Failed}
+use Rattle.journal.specs.declared.draft.Draft.{Draft}
+use Rattle.journal.specs.Drafts.{drafted}
+use Rattle.journal.specs.Readings.{to_find, found_with, found_so_far, Advanced, Starts, HoldsJournal, Failed}
 
 -- served reads of the blocks from k on, and more behind them
 reads_append : (k : ℕ) (xs ys : List Content) → served_reads k (xs ++ ys) ≡ served_reads k xs ++ served_reads (k + length xs) ys
 reads_append k [] ys = let z : k + 0 ≡ k = omega arith in rw z
 reads_append k (x ∷ xs) ys = let z : k + 1 + length xs ≡ k + suc (length xs) = omega arith in ap (λ l. reading k (Ok x) ∷ l) (rw z at (reads_append (k + 1) xs ys))
 
--- a reader that has not ended
-pub going : (r : Reader) (rs : List (Option Record)) → r.ended ≡ false → to_find r rs ≡ outcome r.extent.tail r.extent.batches r.solid.boundary (scan (r.extent.batches + 1) (drafted r.draft) rs)
-going r rs h = ap (λ b. cond b (Ok (found_so_far r)) (outcome r.extent.tail r.extent.batches r.solid.boundary (scan (r.extent.batches + 1) (drafted r.draft) rs))) h
-
--- an edit goes on with the batch
-pub took : (r : Reader) (d : Draft) (n p : ℕ) (e : Edit) (es : List Edit) → r.ended ≡ false → n ≡ r.extent.batches + 1 → es ≡ drafted r.draft → p ≡ length es → length es < 16
-    → drafted d ≡ with_edit (drafted r.draft) e → Advanced r (Some (Change n p e)) (Ok tt) (record { solid = r.solid; extent = r.extent; draft = d; ended = r.ended })
-took r d n p e es goes number is place few more = (λ rs. going r (Some (Change n p e) ∷ rs) goes ∙ ap (outcome r.extent.tail r.extent.batches r.solid.boundary) (step rs) ∙ sym (going s rs goes), λ k w. record { batches = omega (arith, w.batches); tail = omega (arith, w.tail, long) }, refl)
-  where
-    s : Reader
-    s = record { solid = r.solid; extent = r.extent; draft = d; ended = r.ended }
-
-    room : ltb (length (drafted r.draft)) 16 ≡ true
-    room = lt-ltb (length (drafted r.draft)) 16 (omega (arith, ap length is))
-
-    then : drafted d ≡ drafted r.draft ++ e ∷ []
-    then = more ∙ ap (λ b. cond b (drafted r.draft ++ e ∷ []) (drafted r.draft)) room
-
-    long : length (drafted d) ≡ length (drafted r.draft) + 1
-    long = ap length then ∙ length_push (drafted r.draft) e
-
-    step : (rs : List (Option Record)) → scan (r.extent.batches + 1) (drafted r.draft) (Some (Change n p e) ∷ rs) ≡ scan (r.extent.batches + 1) (drafted d) rs
-    step rs =
-        let a : eqb n (r.extent.batches + 1) ≡ true = eq-eqb n (r.extent.batches + 1) number in
-        let b : eqb p (length (drafted r.draft)) ≡ true = eq-eqb p (length (drafted r.draft)) (place ∙ ap length is) in
-        rw (a, b, room) (ap (λ l. scan (r.extent.batches + 1) l rs) (sym then))
-
 -- where no block is to come, what was found so far is found
 pub to_find_none : (r : Reader) → to_find r [] ≡ Ok (found_so_far r)
-to_find_none r = either r.ended (Ok (found_so_far r))
+to_find_none r = either r.draft
   where
-    either : (b : Bool) (a : Result Found JournalFault) → cond b a a ≡ a
-    either true a = refl
-    either false a = refl
+    either : (o : Option Draft) → found_with (found_so_far r) o [] ≡ Ok (found_so_far r)
+    either None = refl
+    either (Some d) = refl
 
 -- what a reader is to the blocks cs, of which it has seen the first k
 abbrev pub Seen : List Content → ℕ → Reader → Type 0
@@ -113,9 +84,8 @@ failed_at reads did {d} k c x r s (Unfit b f) n lt is of seen a h = (n, k, lt, s
 -- a reader that has seen no block
 pub starts : (n : ℕ) (cs : List Content) (r : Reader) → Starts n r → Seen cs 0 r
 starts n cs r s rs =
-    let a : to_find r rs ≡ outcome r.extent.tail r.extent.batches r.solid.boundary (scan (r.extent.batches + 1) (drafted r.draft) rs) = going r rs s.goes in
-    a
-    ∙ ap (λ t. outcome t r.extent.batches r.solid.boundary (scan (r.extent.batches + 1) (drafted r.draft) rs)) s.tail
-    ∙ ap (λ m. outcome 0 m r.solid.boundary (scan (m + 1) (drafted r.draft) rs)) s.batches
-    ∙ ap (λ b. outcome 0 0 b (scan 1 (drafted r.draft) rs)) s.boundary
-    ∙ ap (λ es. outcome 0 0 empty (scan 1 es rs)) s.draft
+    ap (λ o. found_with (found_so_far r) o rs) s.reads
+    ∙ ap (λ t. outcome t r.extent.batches r.solid.boundary (scan (r.extent.batches + 1) (drafted s.draft) rs)) s.tail
+    ∙ ap (λ m. outcome 0 m r.solid.boundary (scan (m + 1) (drafted s.draft) rs)) s.batches
+    ∙ ap (λ b. outcome 0 0 b (scan 1 (drafted s.draft) rs)) s.boundary
+    ∙ ap (λ es. outcome 0 0 empty (scan 1 es rs)) s.none

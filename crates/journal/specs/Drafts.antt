@@ -3,7 +3,7 @@ use Rattle.std.specs.Prelude.{ℕ, cond, List, [], ◌∷◌, ◌++◌, length, 
 use Rattle.boundary.specs.declared.Edit.{Edit}
 use Rattle.faults.specs.declared.SolidFault.{SolidFault}
 use Rattle.faults.specs.declared.SolidFault.TheVariants.{TooMany}
-use Rattle.journal.specs.declared.Draft.{Draft}
+use Rattle.journal.specs.declared.draft.Draft.{Draft}
 
 -- the edits, in order
 abbrev pub drafted : Draft → List Edit

@@ -1,5 +1,5 @@
 -- Reading a journal: which blocks are read, and what is answered.
-use Rattle.std.specs.Prelude.{◌≡◌, ℕ, ◌+◌, ◌<◌, ◌≤◌, true, false, cond, ◌⊎◌, List, [], ◌∷◌, ◌++◌, length, take, is_ok, Ok, Err, Option, Result}
+use Rattle.std.specs.Prelude.{◌≡◌, ℕ, ◌+◌, ◌<◌, ◌≤◌, true, ◌⊎◌, List, [], ◌∷◌, ◌++◌, length, take, is_ok, Some, None, Ok, Err, Option, Result}
 use Rattle.boundary.specs.declared.Boundary.{Boundary}
 use Rattle.boundary.specs.declared.Edit.{Edit}
 use Rattle.boundary.specs.Operators.{empty}
@@ -16,6 +16,7 @@ use Rattle.standing.specs.Openings.{Found, applied_all, position_of, outcome, op
 use Rattle.standing.specs.Plans.{served_reads}
 use Rattle.journal.specs.declared.Extent.{Extent}
 use Rattle.journal.specs.declared.Reader.{Reader}
+use Rattle.journal.specs.declared.draft.Draft.{Draft}
 use Rattle.journal.specs.Drafts.{drafted}
 
 -- the edits es were applied to b one after the other, which left b'; or one was refused, at a position of the list
@@ -27,9 +28,19 @@ Applied b es (Err f) b' = (applied_all b 0 es ≡ Err f) × (position_of f < len
 abbrev pub found_so_far : Reader → Found
 found_so_far r = record { boundary = r.solid.boundary; batches = r.extent.batches; tail = r.extent.tail }
 
--- what it will find with the records rs still to come
+-- what is found with the records rs still to come, where f is found so far and a batch is being read; where none is, the reading has ended
+abbrev pub found_with : Found → Option Draft → List (Option Record) → Result Found JournalFault
+found_with f None rs = Ok f
+found_with f (Some d) rs = outcome f.tail f.batches f.boundary (scan (f.batches + 1) (drafted d) rs)
+
+-- what a reader will find
 abbrev pub to_find : Reader → List (Option Record) → Result Found JournalFault
-to_find r rs = cond r.ended (Ok (found_so_far r)) (outcome r.extent.tail r.extent.batches r.solid.boundary (scan (r.extent.batches + 1) (drafted r.draft) rs))
+to_find r rs = found_with (found_so_far r) r.draft rs
+
+-- the edits of the batch that is being read
+abbrev pub begun : Option Draft → List Edit
+begun None = []
+begun (Some d) = drafted d
 
 -- a reader that has seen no block, of n
 pub record Starts (n : ℕ) (r : Reader) : Type 0 where
@@ -37,13 +48,14 @@ pub record Starts (n : ℕ) (r : Reader) : Type 0 where
   pub count : r.extent.count ≡ n
   pub batches : r.extent.batches ≡ 0
   pub tail : r.extent.tail ≡ 0
-  pub draft : drafted r.draft ≡ []
-  pub goes : r.ended ≡ false
+  pub draft : Draft
+  pub reads : r.draft ≡ Some draft
+  pub none : drafted draft ≡ []
 
 -- the reader has seen at most k blocks
 pub record Within (r : Reader) (k : ℕ) : Type 0 where
   pub batches : r.extent.batches ≤ k
-  pub tail : r.extent.tail + length (drafted r.draft) ≤ k
+  pub tail : r.extent.tail + length (begun r.draft) ≤ k
 
 -- a reader r that is given the record x, if any, becomes s: with x read, as much is still to be found; or an edit of the batch that x closes is refused
 abbrev pub Advanced : Reader → Option Record → Result (Unit {0}) JournalFault → Reader → Type 0

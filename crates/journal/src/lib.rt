@@ -1,23 +1,25 @@
 // The journal on a disk: reading the whole batches that stand, and appending one more.
 #![tactic(auto)]
 
-ghost use Rattle.std.specs.Prelude.{◌≡◌, ◌<◌, ◌≤◌, false, List, [], length, Some, None, Ok, Err, Option};
+ghost use Rattle.std.specs.Prelude.{◌≡◌, ◌+◌, ◌<◌, ◌≤◌, false, List, [], length, Some, None, Ok, Err, Option};
 ghost use Rattle.journal.specs.Appends.{Appends};
-ghost use Rattle.journal.specs.Drafts.{drafted, push_answer, with_edit};
+ghost use Rattle.journal.specs.Drafts.{drafted};
 ghost use Rattle.journal.specs.Lives.{AppendsOn, ExtentOf, ReadsOn};
 ghost use Rattle.journal.specs.Readings.{Advanced, Applied, Looked, Read, Starts, Within};
 ghost use Rattle.boundary.specs.declared.Edit.{Edit};
 ghost use Rattle.standing.specs.Batches.{InRange};
 ghost use Rattle.standing.specs.Journals.{Kept};
 ghost use Rattle.standing.specs.Plans.{Carried, plan};
-ghost use Rattle.standing.specs.Standing.{record_in};
 ghost use Rattle.records.specs.declared.Record.TheVariants.{Change, Closing};
 
-use boundary::{Edit, Point};
-use disk::{Content, Disk, DiskFault};
+use boundary::Edit;
+use disk::{Content, Disk, DiskFault, Fault};
+pub use draft::Draft;
 use faults::{JournalFault, SolidFault};
 use records::Record;
 use solid::Solid;
+
+mod draft;
 
 // How far a journal has come: the blocks of its disk, the whole batches, and the first block behind them.
 #[derive(Clone, Copy)]
@@ -32,102 +34,26 @@ const LEAST_BLOCKS: usize = 2;
 
 const MOST_BLOCKS: usize = 1_000;
 
-// How many edits a batch holds at most.
-const MOST: usize = 16;
-
-// Stands where a draft has no edit yet.
-const NO_EDIT: Edit = Edit::Kvfs { shell: 0 };
-
-// The edits of a batch that is not whole yet, at most sixteen.
-#[derive(Clone, Copy)]
-pub struct Draft {
-    edits: [Edit; 16],
-    len: usize,
-}
-
-impl Draft {
-    pub fn new() -> Draft
-        ensures { drafted result ≡ [] }
-    {
-        Draft {
-            edits: [NO_EDIT; 16],
-            len: 0,
-        }
-    }
-
-    // The edits, in order.
-    pub fn edits(&self) -> &[Edit]
-        ensures is { result.now ≡ drafted self.now }
-        ensures few { length result.now ≤ 16 }
-    {
-        if self.len < MOST {
-            &self.edits[0..self.len]
-        } else {
-            &self.edits[0..MOST]
-        }
-    }
-
-    // The position of one edit more; there is none behind sixteen.
-    pub fn room(&self) -> Result<u32, SolidFault>
-        ensures { result ≡ push_answer (drafted self.now) }
-    {
-        let position = self.edits().len();
-        if position < MOST {
-            Ok(position as u32)
-        } else {
-            Err(SolidFault::TooMany)
-        }
-    }
-
-    // One edit more, which answers its position; a seventeenth is refused.
-    pub fn push(&mut self, edit: Edit) -> Result<u32, SolidFault>
-        ensures answer { result ≡ push_answer (drafted self.old) }
-        ensures left { drafted self.new ≡ with_edit (drafted self.old) edit }
-    {
-        let position = self.edits().len();
-        if position >= MOST {
-            return Err(SolidFault::TooMany);
-        }
-        self.edits[position] = edit;
-        self.len = position + 1;
-        Ok(position as u32)
-    }
-}
-
 // Applies the edits one after the other, up to the first that is refused.
-fn apply_all(solid: &mut Solid, edits: &[Edit]) -> Result<(), SolidFault>
-    requires { length edits.now ≤ 16 }
-    ensures { Applied solid.old.boundary edits.now result solid.new.boundary }
+fn apply_all(solid: &mut Solid, batch: &Draft) -> Result<(), SolidFault>
+    ensures { Applied solid.old.boundary (drafted batch.now) result solid.new.boundary }
 {
-    for i in 0..edits.len() {
-        if let Err(why) = solid.apply(edits[i]) {
-            return Err(SolidFault::Refused {
-                why,
-                position: i as u32,
-            });
-        }
+    for (i, edit) in batch.edits().iter().enumerate() {
+        let position = i as u32;
+        solid
+            .apply(*edit)
+            .map_err(|why| SolidFault::Refused { why, position })?;
     }
     Ok(())
 }
 
-// The record that a block's content is, if it is one.
-fn record_in(content: Content) -> Option<Record>
-    ensures { result ≡ record_in content }
-{
-    match content {
-        Content::Bytes(bytes) => records::decode(&bytes),
-        Content::Unreadable => None,
-    }
-}
-
 // How far a reading has come: what stands so far, and the edits of the batch that is being read.
-// Once a block starts no whole batch it has ended, and the blocks behind it are read and not used.
+// Once a block starts no whole batch there is none, and the blocks behind it are read and not used.
 #[derive(Clone, Copy)]
 struct Reader {
     solid: Solid,
     extent: Extent,
-    draft: Draft,
-    ended: bool,
+    draft: Option<Draft>,
 }
 
 impl Reader {
@@ -142,66 +68,57 @@ impl Reader {
                 batches: 0,
                 tail: 0,
             },
-            draft: Draft::new(),
-            ended: false,
+            draft: Some(Draft::new()),
         }
     }
 
-    // An edit goes on with the batch that is being read, or ends the reading.
-    fn take_change(&mut self, number: u32, position: u16, edit: Edit)
-        requires { (self.old.ended ≡ false) × Within self.old 1000 }
-        ensures { Advanced self.old (Some (Change number position edit)) (Ok tt) self.new }
+    // The batch that is being read is whole: its edits are applied, and the next one begins.
+    fn close_batch(&mut self, batch: &Draft) -> Result<(), JournalFault>
+        requires read { self.old.draft ≡ Some batch.now }
+        requires some { 0 < length (drafted batch.now) }
+        requires within { Within self.old 1000 }
+        ensures { Advanced self.old (Some (Closing (self.old.extent.batches + 1) (length (drafted batch.now)))) result self.new }
     {
-        let next = self.draft.edits().len();
-        if number == self.extent.batches + 1 && position as usize == next && next < MOST {
-            let _ = self.draft.push(edit);
-        } else {
-            self.ended = true;
-        }
-    }
-
-    // A closing record makes the batch whole, and its edits are applied; or it ends the reading.
-    fn close_batch(&mut self, number: u32, count: u16) -> Result<(), JournalFault>
-        requires { (self.old.ended ≡ false) × Within self.old 1000 }
-        ensures { Advanced self.old (Some (Closing number count)) result self.new }
-    {
-        let draft = self.draft;
-        let edits = draft.edits();
-        if number != self.extent.batches + 1 || count as usize != edits.len() || count == 0 {
-            self.ended = true;
-            return Ok(());
-        }
-        if let Err(fault) = apply_all(&mut self.solid, edits) {
-            return Err(JournalFault::Unfit(u32::from(self.extent.tail) + fault.place(), fault));
-        }
+        let tail = self.extent.tail;
+        apply_all(&mut self.solid, batch).map_err(|fault| JournalFault::Unfit(
+            u32::from(tail) + fault.place() as u32,
+            fault,
+        ))?;
         self.extent.batches += 1;
-        self.extent.tail += count + 1;
-        self.draft = Draft::new();
+        self.extent.tail += batch.edits().len() as u16 + 1;
+        self.draft = Some(Draft::new());
         Ok(())
     }
 
-    // The next block, with its record if it is one.
+    // The next block, with its record if it is one. What does not go on with the batch ends the reading.
     fn advance(&mut self, record: Option<Record>) -> Result<(), JournalFault>
         requires { Within self.old 1000 }
         ensures { Advanced self.old «record» result self.new }
     {
-        if self.ended {
-            return Ok(());
-        }
-        let Some(found) = record else {
-            self.ended = true;
+        let Some(mut draft) = self.draft else {
             return Ok(());
         };
-        match found {
-            Record::Change {
-                number,
-                position,
-                edit,
-            } => {
-                self.take_change(number, position, edit);
+        let batch = self.extent.batches + 1;
+        let next = draft.edits().len();
+        match record {
+            Some(
+                Record::Change {
+                    number,
+                    position,
+                    edit,
+                },
+            ) if number == batch && position as usize == next => {
+                self.draft = draft.push(edit).ok().map(|_| draft);
                 Ok(())
             }
-            Record::Closing { number, count } => self.close_batch(number, count),
+            Some(Record::Closing { number, count })
+                if number == batch && count as usize == next && count > 0 => {
+                self.close_batch(&draft)
+            }
+            _ => {
+                self.draft = None;
+                Ok(())
+            }
         }
     }
 }
@@ -217,7 +134,7 @@ fn read_blocks<D: Disk>(disk: &mut D) -> Result<Reader, JournalFault>
     let mut reader = Reader::new(count as u16);
     for k in 0..count {
         let content = disk.read(k as u32)?;
-        reader.advance(record_in(content))?;
+        reader.advance(standing::record_in(content))?;
     }
     Ok(reader)
 }
@@ -238,16 +155,17 @@ fn write_batch<D: Disk>(
     disk: &mut D,
     number: u32,
     tail: u32,
-    edits: &[Edit],
+    batch: &Draft,
 ) -> Result<(), DiskFault>
-    requires { (length edits.now ≤ 16) × (tail < 65536) }
-    ensures { Carried D.Disk.did disk.old (plan number tail edits.now) result disk.new }
+    requires { tail < 65536 }
+    ensures { Carried D.Disk.did disk.old (plan number tail (drafted batch.now)) result disk.new }
 {
-    for i in 0..edits.len() {
+    let edits = batch.edits();
+    for (i, edit) in edits.iter().enumerate() {
         let change = Record::Change {
             number,
             position: i as u16,
-            edit: edits[i],
+            edit: *edit,
         };
         disk.write(tail + i as u32, records::encode(change))?;
     }
@@ -276,7 +194,7 @@ pub fn append<D: Disk>(disk: &mut D, extent: Extent, batch: &Draft) -> Result<Ex
         return Err(JournalFault::Full(tail));
     }
     let number = extent.batches.saturating_add(1);
-    write_batch(disk, number, tail, edits)?;
+    write_batch(disk, number, tail, batch)?;
     Ok(Extent {
         count: extent.count,
         batches: number,

@@ -1,14 +1,25 @@
-// What stands in a journal, and what lost power leaves of it. A function here has a theorem as its contract, and is proved only where the theorem is.
+// What stands in a journal, and what lost power leaves of it. Where a function has a theorem as its contract, it is proved only where the theorem is.
 #![tactic(auto)]
 
-ghost use Rattle.std.specs.Prelude.{◌≤◌, List, length, Option};
+ghost use Rattle.std.specs.Prelude.{◌≡◌, ◌≤◌, List, length, Option};
 ghost use Rattle.boundary.specs.declared.Edit.{Edit};
 ghost use Rattle.disk.specs.declared.Content.{Content};
 ghost use Rattle.standing.specs.Examples.{Worked};
 ghost use Rattle.standing.specs.Journals.{Kept, Left};
-ghost use Rattle.standing.specs.Standing.{Longest};
+ghost use Rattle.standing.specs.Standing.{Longest, record_in};
 
-use disk::Disk;
+use disk::{Content, Disk};
+use records::Record;
+
+// The record that a block's content is, if it is one.
+pub fn record_in(content: Content) -> Option<Record>
+    ensures { result ≡ record_in content }
+{
+    match content {
+        Content::Bytes(bytes) => records::decode(&bytes),
+        Content::Unreadable => None,
+    }
+}
 
 // What stands is the longest list of batches with whose records the blocks begin.
 pub fn longest_stands() -> u8

@@ -6,7 +6,7 @@ use Rattle.disk.specs.Chains.{Chain, none}
 use Rattle.disk.proofs.Chains.{then_one}
 use Rattle.standing.specs.Openings.{opening}
 use Rattle.standing.specs.Plans.{served_reads}
-use Rattle.journal.specs.Readings.{found_so_far}
+use Rattle.journal.specs.Readings.{begun, found_so_far}
 use Rattle.journal.proofs.Reading.{starts, seen_more, read_more, seen_opening, seen_ok, read_cut, failed_at}
 use Rattle.journal.proofs.read_blocks.Goals as goal
 
@@ -16,7 +16,7 @@ loop-k-init g c = record {
   same = refl;
   seen = starts _ (g.D.Disk.reads c.args.disk.now) c.new-reader.result c.new-reader.ensures;
   count = c.new-reader.ensures.count ∙ c.size-count.ensures;
-  bounds = record { batches = omega (arith, c.new-reader.ensures.batches); tail = omega (arith, c.new-reader.ensures.tail, ap length c.new-reader.ensures.draft) };
+  bounds = record { batches = omega (arith, c.new-reader.ensures.batches); tail = omega (arith, c.new-reader.ensures.tail, ap (λ o. length (begun o)) c.new-reader.ensures.reads, ap length c.new-reader.ensures.none) };
 }
 
 pub returns-in_err-content : goal.returns-in_err-content
