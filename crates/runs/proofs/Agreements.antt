@@ -1,6 +1,7 @@
 -- The ledger and the session agree, through every call and every loss.
 use Rattle.std.proofs.Common.{◌≡◌, ℕ, ◌+◌, ◌<◌, ◌≤◌, Bool, true, false, cond, ltb, leb, ◌⊎◌, List, [], ◌∷◌, ◌++◌, length, get_or, take, Some, None, Ok, Err, Option, Result, sym, refl, ap, ◌∙◌, subst, inl, inr, ⊎_elim, arith, le-ltb, lt-ltb, le-leb}
 use borrow.Author.Tests.{lt-leb}
+use Rattle.std.specs.Result.{IsOk}
 use Rattle.std.proofs.lemmas.List.{length_push, length-take-le}
 use Rattle.boundary.specs.declared.Boundary.{Boundary}
 use Rattle.boundary.specs.declared.Edit.{Edit}
@@ -58,8 +59,16 @@ use Rattle.runs.proofs.Promises.{not_some, open_promise, commit_promise}
 ok_same : {A E : Type 0} {x y : A} {r : Result A E} → r ≡ Ok x → r ≡ Ok y → x ≡ y
 ok_same p q = cc
 
-some_same : {A : Type 0} {x y : A} {o : Option A} → o ≡ Some x → o ≡ Some y → x ≡ y
-some_same p q = cc
+err_same : {A E : Type 0} {x y : E} {r : Result A E} → r ≡ Err x → r ≡ Err y → x ≡ y
+err_same p q = cc
+
+not_both : {A E : Type 0} {x : A} {y : E} {r : Result A E} → r ≡ Ok x → r ≡ Err y → ⊥
+not_both p q = let z : ◌≡◌ {A = ℕ} 0 1 = cc in omega arith
+
+-- what is no fault is an extent
+extent_of : {A E : Type 0} (r : Result A E) → IsOk r → (x : A) × (r ≡ Ok x)
+extent_of (Ok x) h = (x, refl)
+extent_of (Err y) h = let z : ◌≡◌ {A = ℕ} 0 1 = cc in absurd (omega arith)
 
 -- the ledger with these batches, at this stage
 abbrev led : List (List Edit) → Option (List Edit) → Stage → Ledger
@@ -78,14 +87,15 @@ module _ {S : Type 0} (reads : S → List Content) (may : S → ℕ → Content 
 
   -- a session that no 20 has met
   pub record Clean (a : List (List Edit)) (q : Option (List Edit)) (s : Session S) : Type 0 where
-    pub no_fault : s.fault ≡ None
+    pub place : Extent
+    pub next : s.next ≡ Ok place
     pub solid : s.solid.boundary ≡ built a
-    pub extent : ExtentOf n a s.extent
+    pub extent : ExtentOf n a place
     pub sure : q ≡ None
 
   -- a session that a 20 has met
   pub record Dirty (f : DiskFault) (s : Session S) : Type 0 where
-    pub is : s.fault ≡ Some (Disk f)
+    pub is : s.next ≡ Err (Disk f)
     pub off : gone s.disk ≡ true
 
   abbrev pub InSession : List (List Edit) → Option (List Edit) → Option DiskFault → Session S → Type 0
@@ -186,7 +196,7 @@ module _ {S : Type 0} (reads : S → List Content) (may : S → ℕ → Content 
     opens_well : (b : Boundary) (x : Extent) (e : S) → Looked reads did d b (Ok x) e → Goes ss Open (Shown x.batches (record { boundary = b })) (Opened (opened e b (Ok x)))
     opens_well b x e h = goes (Idle d) (Opened (opened e b (Ok x))) Open (Shown x.batches (record { boundary = b })) (served_reads 0 (reads d)) None run h.0.calls (uncut_reads 0 (reads d)) refl
         (all_read (reads d) count refl) reply (open_promise a _ None reply)
-        (record { kept = on.goes_on; fits = g.fits; doubt = subst (λ o. Doubted a o e) (sym sure) tt; at = record { no_fault = refl; solid = solid; extent = shown.0; sure = sure } })
+        (record { kept = on.goes_on; fits = g.fits; doubt = subst (λ o. Doubted a o e) (sym sure) tt; at = record { place = x; next = refl; solid = solid; extent = shown.0; sure = sure } })
       where
         sure : q ≡ None
         sure = sure_by q g.doubt (reads d) (omega (arith, count)) h.0.calls
@@ -255,11 +265,14 @@ module _ {S : Type 0} (reads : S → List Content) (may : S → ℕ → Content 
     sides None h = inr (refl, h)
     sides (Some f) h = inl (f, refl, h)
 
-    clean : b.session.fault ≡ None → (m ≡ None) × Clean a q b.session
-    clean h = elim (sides m g.at.0) [ inl w ↦ absurd (not_some h w.2.is) | inr w ↦ w ]
+    clean : (x : Extent) → b.session.next ≡ Ok x → (m ≡ None) × Clean a q b.session
+    clean x h = elim (sides m g.at.0) [ inl w ↦ absurd (not_both h w.2.is) | inr w ↦ w ]
 
-    dirty : (x : JournalFault) → b.session.fault ≡ Some x → (f : DiskFault) × (m ≡ Some f) × (x ≡ Disk f)
-    dirty x h = elim (sides m g.at.0) [ inl w ↦ (w.0, w.1, some_same h w.2.is) | inr w ↦ absurd (not_some w.1.no_fault h) ]
+    no_fault : IsOk b.session.next → m ≡ None
+    no_fault h = let e = extent_of b.session.next h in (clean e.0 e.1).0
+
+    dirty : (x : JournalFault) → b.session.next ≡ Err x → (f : DiskFault) × (m ≡ Some f) × (x ≡ Disk f)
+    dirty x h = elim (sides m g.at.0) [ inl w ↦ (w.0, w.1, err_same h w.2.is) | inr w ↦ absurd (not_both w.1.next h) ]
 
     long : length (drafted b.edits) ≡ length es
     long = ap length dr.edits
@@ -296,17 +309,17 @@ module _ {S : Type 0} (reads : S → List Content) (may : S → ℕ → Content 
         let w = dirty f h in
         told_as (Apply e) (er ∙ ap edit_reply v) (eq ∙ ap Editing u) (edit_no e (FromJournal f) (ap (λ y. Refused (FromJournal y)) w.2 ∙ sym (ap (λ o. edit_told a o es e) w.1)) (ap (λ o. with_edit a o es e) w.1))
     edits z r e c x (seventeenth h le u v) eq er =
-        let mm = (clean h).0 in
+        let mm = no_fault h in
         let full : ltb (length es) 16 ≡ false = le-ltb (length es) 16 (omega (arith, long)) in
         told_as (Apply e) (er ∙ ap edit_reply v) (eq ∙ ap Editing u) (edit_no e (FromSolid TooMany) (sym (ap (λ o. edit_told a o es e) mm ∙ rw full)) (ap (λ o. with_edit a o es e) mm ∙ rw full))
     edits z r e c x (refused w h lt ref u v) eq er =
-        let mm = (clean h).0 in
+        let mm = no_fault h in
         let room : ltb (length es) 16 ≡ true = lt-ltb (length es) 16 (omega (arith, long)) in
         let why = draft_says mm e (Some w) ref in
         told_as (Apply e) (er ∙ ap edit_reply v ∙ ap (λ k. Refused (FromSolid (Refuses w k))) long) (eq ∙ ap Editing u)
         (edit_no e (FromSolid (Refuses w (length es))) (sym (ap (λ o. edit_told a o es e) mm ∙ rw (room, why))) (ap (λ o. with_edit a o es e) mm ∙ rw (room, why)))
     edits z r e c x (joined h lt ok u v) eq er =
-        let mm = (clean h).0 in
+        let mm = no_fault h in
         told_as (Apply e) (er ∙ ap edit_reply v ∙ ap Placed long) eq (edit_yes e c mm (omega (arith, long)) (draft_says mm e None ok) u)
 
     -- a commit that is dropped
@@ -315,9 +328,9 @@ module _ {S : Type 0} (reads : S → List Content) (may : S → ℕ → Content 
         (ap (λ t. cond t (ledgers.staged (led a q (in_batch m es)) (in_session m)) (ledgers.carried (led a q (in_batch m es)) es None)) h) (dropped h refl) reply (commit_promise n a q es m None (Refused f) reply) g g.at.0
 
     -- a commit that is appended
-    module _ (mm : m ≡ None) (cl : Clean a q b.session) (some : 0 < length es) (room : b.session.extent.tail + length es + 1 ≤ b.session.extent.count) where
+    module _ (x : Extent) (at : ExtentOf n a x) (mm : m ≡ None) (cl : Clean a q b.session) (some : 0 < length es) (room : x.tail + length es + 1 ≤ x.count) where
       fits_in : blocks a + length es + 1 ≤ n
-      fits_in = omega (arith, cl.extent.tail, cl.extent.count)
+      fits_in = omega (arith, at.tail, at.count)
 
       goes_in : drops n a m es ≡ false
       goes_in =
@@ -325,17 +338,17 @@ module _ {S : Type 0} (reads : S → List Content) (may : S → ℕ → Content 
           let y : leb (blocks a + length es + 1) n ≡ true = le-leb (blocks a + length es + 1) n fits_in in
           ap (λ o. drops n a o es) mm ∙ rw (x, y)
 
-      the_plan : plan (next_number b.session.extent) b.session.extent.tail es ≡ plan (length a + 1) (blocks a) es
-      the_plan = same_plan a es b.session.extent cl.extent (omega arith)
+      the_plan : plan (next_number x) x.tail es ≡ plan (length a + 1) (blocks a) es
+      the_plan = same_plan a es x at (omega arith)
 
-      number : next_number b.session.extent ≡ length a + 1
-      number = numbered a b.session.extent cl.extent (omega arith)
+      number : next_number x ≡ length a + 1
+      number = numbered a x at (omega arith)
 
       kept : Kept reads may did d₀ a None b.session.disk
       kept = subst (λ o. Kept reads may did d₀ a o b.session.disk) cl.sure g.kept
 
-      on : (y : Result Extent JournalFault) (e : S) → Appends did b.session.disk b.session.extent es y e → AppendsOn reads may did d₀ a es y e
-      on y e h = appends_on reads may gone did stands keeps d₀ hi b.session.extent es y e h dr.few a kept cl.extent (accepted_in_range (built a) es dr.fit)
+      on : (y : Result Extent JournalFault) (e : S) → Appends did b.session.disk x es y e → AppendsOn reads may did d₀ a es y e
+      on y e h = appends_on reads may gone did stands keeps d₀ hi x es y e h dr.few a kept at (accepted_in_range (built a) es dr.fit)
 
       reply_is : (cut : Option DiskFault) → commit_told n a m es cut ≡ carried_told a cut
       reply_is cut =
@@ -346,29 +359,30 @@ module _ {S : Type 0} (reads : S → List Content) (may : S → ℕ → Content 
       after_is : (cut : Option DiskFault) → after_call n (led a q (in_batch m es)) Commit cut ≡ ledgers.carried (led a q (in_batch m es)) es cut
       after_is cut = ap (λ t. cond t (ledgers.staged (led a q (in_batch m es)) (in_session m)) (ledgers.carried (led a q (in_batch m es)) es cut)) goes_in
 
-      commit_yes : (e : S) → Chain did b.session.disk (served (plan (next_number b.session.extent) b.session.extent.tail es)) e → Goes ss Commit (KeptAs (next_number b.session.extent)) (Opened (committed b e (Ok (extended b.session.extent (length es)))))
-      commit_yes e chain = goes (Editing b) (Opened (committed b e (Ok (extended b.session.extent (length es))))) Commit (KeptAs (next_number b.session.extent)) (served (plan (length a + 1) (blocks a) es)) None run
+      commit_yes : (e : S) → Chain did b.session.disk (served (plan (next_number x) x.tail es)) e → Goes ss Commit (KeptAs (next_number x)) (Opened (committed b x e (Ok (extended x (length es)))))
+      commit_yes e chain = goes (Editing b) (Opened (committed b x e (Ok (extended x (length es))))) Commit (KeptAs (next_number x)) (served (plan (length a + 1) (blocks a) es)) None run
           (subst (λ ps. Chain did b.session.disk (served ps) e) the_plan chain) (uncut_served (plan (length a + 1) (blocks a) es)) (after_is None) (not_dropped goes_in (all_served refl)) reply (commit_promise n a q es m None _ reply)
           (record {
             kept = subst (λ o. Kept reads may did d₀ (a ++ es ∷ []) o e) (sym cl.sure) left.0;
             fits = subst (Accepted empty) (sym (all_edits_more a es)) (accepted_append empty (all_edits a) es g.fits dr.fit);
             doubt = subst (λ o. Doubted (a ++ es ∷ []) o e) (sym cl.sure) tt;
             at = record {
-              no_fault = refl;
+              place = extended x (length es);
+              next = refl;
               solid = dr.draft mm ∙ sym (ap (after_all empty) (all_edits_more a es) ∙ after_all_append empty (all_edits a) es);
               extent = left.1;
               sure = cl.sure;
             };
           })
         where
-          left : Kept reads may did d₀ (a ++ es ∷ []) None e × ExtentOf n (a ++ es ∷ []) (extended b.session.extent (length es))
-          left = on (Ok (extended b.session.extent (length es))) e (carried some room (Ok tt) chain refl)
+          left : Kept reads may did d₀ (a ++ es ∷ []) None e × ExtentOf n (a ++ es ∷ []) (extended x (length es))
+          left = on (Ok (extended x (length es))) e (carried some room (Ok tt) chain refl)
 
-          reply : KeptAs (next_number b.session.extent) ≡ commit_told n a m es None
+          reply : KeptAs (next_number x) ≡ commit_told n a m es None
           reply = ap KeptAs number ∙ sym (reply_is None)
 
-      commit_cut : (e : S) (f : DiskFault) → Carried did b.session.disk (plan (next_number b.session.extent) b.session.extent.tail es) (Err f) e → Goes ss Commit (told_20 f) (Opened (committed b e (Err (Disk f))))
-      commit_cut e f h = goes (Editing b) (Opened (committed b e (Err (Disk f)))) Commit (told_20 f) (served (take i p) ++ as_call (get_or p i settle) (Err f) ∷ []) (Some f) run h'.2
+      commit_cut : (e : S) (f : DiskFault) → Carried did b.session.disk (plan (next_number x) x.tail es) (Err f) e → Goes ss Commit (told_20 f) (Opened (committed b x e (Err (Disk f))))
+      commit_cut e f h = goes (Editing b) (Opened (committed b x e (Err (Disk f)))) Commit (told_20 f) (served (take i p) ++ as_call (get_or p i settle) (Err f) ∷ []) (Some f) run h'.2
           (cut_last (served (take i p)) (as_call (get_or p i settle) (Err f)) f (uncut_served (take i p)) (ap (λ x. ledgers.cut_of (as_call (get_or p i settle) (Err x))) off.power ∙ step_cut (get_or p i settle) off.block ∙ ap Some (sym off.power)))
           (after_is (Some f)) (not_dropped goes_in (cut_at i off.block h'.1 (ap (λ x. served (take i p) ++ as_call (get_or p i settle) (Err x) ∷ []) off.power))) reply (commit_promise n a q es m (Some f) _ reply)
           (record { kept = on (Err (Disk f)) e (carried some room (Err f) h refl); fits = g.fits; doubt = (off.off, dr.fit); at = record { is = refl; off = off.off } })
@@ -388,40 +402,44 @@ module _ {S : Type 0} (reads : S → List Content) (may : S → ℕ → Content 
           reply : told_20 f ≡ commit_told n a m es (Some f)
           reply = sym (reply_is (Some f))
 
-      commit_by : (w : Result (Unit {0}) DiskFault) (e : S) → Carried did b.session.disk (plan (next_number b.session.extent) b.session.extent.tail es) w e
-          → Goes ss Commit (commit_reply (answered (append_answer b.session.extent (length es) w))) (Opened (committed b e (append_answer b.session.extent (length es) w)))
+      commit_by : (w : Result (Unit {0}) DiskFault) (e : S) → Carried did b.session.disk (plan (next_number x) x.tail es) w e
+          → Goes ss Commit (commit_reply (answered (append_answer x (length es) w))) (Opened (committed b x e (append_answer x (length es) w)))
       commit_by (Ok u) e h = commit_yes e h
       commit_by (Err f) e h = commit_cut e f h
 
     -- a refused append that made no disk call leaves the session
-    same_session : (e : S) → e ≡ b.session.disk → b.session.fault ≡ None → record { disk = e; solid = b.session.solid; extent = b.session.extent; fault = None } ≡ b.session
-    same_session e same h =
-        ap (λ d. record { disk = d; solid = b.session.solid; extent = b.session.extent; fault = None }) same
-        ∙ ap (λ f. record { disk = b.session.disk; solid = b.session.solid; extent = b.session.extent; fault = f }) (sym h)
+    same_session : (x : Extent) (e : S) → e ≡ b.session.disk → b.session.next ≡ Ok x → record { disk = e; solid = b.session.solid; next = Ok x } ≡ b.session
+    same_session x e same h =
+        ap (λ d. record { disk = d; solid = b.session.solid; next = Ok x }) same
+        ∙ ap (λ r. record { disk = b.session.disk; solid = b.session.solid; next = r }) (sym h)
 
-    commits_by : (y : Result Extent JournalFault) (e : S) → b.session.fault ≡ None → Appends did b.session.disk b.session.extent es y e → Goes ss Commit (commit_reply (answered y)) (Opened (committed b e y))
-    commits_by y e h (no_edits z is same) =
-        let mm = (clean h).0 in
-        let t = (clean h).1.extent.tail in
+    -- the extent of the session is that of the acknowledged batches
+    extent_is : (x : Extent) → b.session.next ≡ Ok x → ExtentOf n a x
+    extent_is x h = let cl = (clean x h).1 in subst (ExtentOf n a) (ok_same cl.next h) cl.extent
+
+    commits_by : (x : Extent) (y : Result Extent JournalFault) (e : S) → b.session.next ≡ Ok x → Appends did b.session.disk x es y e → Goes ss Commit (commit_reply (answered y)) (Opened (committed b x e y))
+    commits_by x y e h (no_edits z is same) =
+        let mm = (clean x h).0 in
+        let t = (extent_is x h).tail in
         let none_in : ltb 0 (length es) ≡ false = le-ltb 0 (length es) (omega arith) in
-        told_as Commit (ap (λ v. commit_reply (answered v)) is ∙ ap (λ k. Refused (FromJournal (NoEdits k))) t) (ap (λ v. Opened (committed b e v)) is ∙ ap Opened (same_session e same h))
+        told_as Commit (ap (λ v. commit_reply (answered v)) is ∙ ap (λ k. Refused (FromJournal (NoEdits k))) t) (ap (λ v. Opened (committed b x e v)) is ∙ ap Opened (same_session x e same h))
         (commit_no (FromJournal (NoEdits (blocks a))) (ap (λ o. drops n a o es) mm ∙ rw none_in) (sym (ap (λ o. commit_told n a o es None) mm ∙ rw none_in)))
-    commits_by y e h (no_room some full is same) =
-        let mm = (clean h).0 in
-        let x = (clean h).1.extent in
+    commits_by x y e h (no_room some full is same) =
+        let mm = (clean x h).0 in
+        let at = extent_is x h in
         let in_it : ltb 0 (length es) ≡ true = lt-ltb 0 (length es) some in
-        let over : leb (blocks a + length es + 1) n ≡ false = lt-leb (blocks a + length es + 1) n (omega (arith, x.tail, x.count)) in
-        told_as Commit (ap (λ v. commit_reply (answered v)) is ∙ ap (λ k. Refused (FromJournal (Full k))) x.tail) (ap (λ v. Opened (committed b e v)) is ∙ ap Opened (same_session e same h))
+        let over : leb (blocks a + length es + 1) n ≡ false = lt-leb (blocks a + length es + 1) n (omega (arith, at.tail, at.count)) in
+        told_as Commit (ap (λ v. commit_reply (answered v)) is ∙ ap (λ k. Refused (FromJournal (Full k))) at.tail) (ap (λ v. Opened (committed b x e v)) is ∙ ap Opened (same_session x e same h))
         (commit_no (FromJournal (Full (blocks a))) (ap (λ o. drops n a o es) mm ∙ rw (in_it, over)) (sym (ap (λ o. commit_told n a o es None) mm ∙ rw (in_it, over))))
-    commits_by y e h (carried some room w c is) =
-        told_as Commit (ap (λ v. commit_reply (answered v)) is) (ap (λ v. Opened (committed b e v)) is) (commit_by (clean h).0 (clean h).1 some room w e c)
+    commits_by x y e h (carried some room w c is) =
+        told_as Commit (ap (λ v. commit_reply (answered v)) is) (ap (λ v. Opened (committed b x e v)) is) (commit_by x (extent_is x h) (clean x h).0 (clean x h).1 some room w e c)
 
     commits : (z : Phase S) (r : Reply) (s : Session S) (x : Result ℕ SessionFault) → Commits did b s x → z ≡ Opened s → r ≡ commit_reply x → Goes ss Commit r z
-    commits z r s x (faulted f h u v) eq er =
+    commits z r s y (faulted f h u v) eq er =
         let w = dirty f h in
         told_as Commit (er ∙ ap commit_reply v) (eq ∙ ap Opened u) (commit_no (FromJournal f) (ap (λ o. drops n a o es) w.1) (ap (λ y. Refused (FromJournal y)) w.2 ∙ sym (ap (λ o. commit_told n a o es None) w.1)))
-    commits z r s x (appended h y e c u v) eq er =
-        told_as Commit (er ∙ ap commit_reply v) (eq ∙ ap Opened u) (commits_by y e h (subst (λ l. Appends did b.session.disk b.session.extent l y e) dr.edits c))
+    commits z r s w (appended x h y e c u v) eq er =
+        told_as Commit (er ∙ ap commit_reply v) (eq ∙ ap Opened u) (commits_by x y e h (subst (λ l. Appends did b.session.disk x l y e) dr.edits c))
 
   -- every call, from every phase
   from_idle : {ss : List Step} (a : List (List Edit)) (q : Option (List Edit)) (d : S) (c : Call) (z : Phase S) (r : Reply) → Runs reads may did d₀ ss d (led a q idle) → Agrees a q idle (Idle d) → Stepped reads may did (Idle d) c z r → Goes ss c r z

@@ -61,85 +61,6 @@ pub trait Supply {
         ensures { AfterLoss Self.Make.Disk.reads Self.Make.Disk.may lost result };
 }
 
-fn call_open<D: Disk>(phase: Phase<D>) -> (Phase<D>, Reply)
-    ensures { Stepped D.Disk.reads D.Disk.may D.Disk.did phase Open result.0 result.1 }
-{
-    match phase {
-        Phase::Idle(disk) => {
-            let (session, answer) = open(disk);
-            let shown = *session.solid();
-            match answer {
-                Ok(count) => (Phase::Opened(session), Reply::Shown(count, shown)),
-                Err(fault) => (Phase::Opened(session), Reply::Refused(fault)),
-            }
-        }
-        Phase::Opened(session) => (Phase::Opened(session), Reply::NotNow),
-        Phase::Editing(batch) => (Phase::Editing(batch), Reply::NotNow),
-    }
-}
-
-fn call_begin<D: Disk>(phase: Phase<D>) -> (Phase<D>, Reply)
-    ensures { Stepped D.Disk.reads D.Disk.may D.Disk.did phase Begin result.0 result.1 }
-{
-    match phase {
-        Phase::Idle(disk) => (Phase::Idle(disk), Reply::NotNow),
-        Phase::Opened(session) => (Phase::Editing(session.begin()), Reply::Done),
-        Phase::Editing(batch) => (Phase::Editing(batch), Reply::NotNow),
-    }
-}
-
-fn call_edit<D: Disk>(phase: Phase<D>, edit: Edit) -> (Phase<D>, Reply)
-    ensures { Stepped D.Disk.reads D.Disk.may D.Disk.did phase (Apply edit) result.0 result.1 }
-{
-    match phase {
-        Phase::Idle(disk) => (Phase::Idle(disk), Reply::NotNow),
-        Phase::Opened(session) => (Phase::Opened(session), Reply::NotNow),
-        Phase::Editing(begun) => {
-            let mut batch = begun;
-            match batch.edit(edit) {
-                Ok(position) => (Phase::Editing(batch), Reply::Placed(position)),
-                Err(fault) => (Phase::Editing(batch), Reply::Refused(fault)),
-            }
-        }
-    }
-}
-
-fn call_commit<D: Disk>(phase: Phase<D>) -> (Phase<D>, Reply)
-    ensures { Stepped D.Disk.reads D.Disk.may D.Disk.did phase Commit result.0 result.1 }
-{
-    match phase {
-        Phase::Idle(disk) => (Phase::Idle(disk), Reply::NotNow),
-        Phase::Opened(session) => (Phase::Opened(session), Reply::NotNow),
-        Phase::Editing(batch) => {
-            let (session, answer) = batch.commit();
-            match answer {
-                Ok(number) => (Phase::Opened(session), Reply::Kept(number)),
-                Err(fault) => (Phase::Opened(session), Reply::Refused(fault)),
-            }
-        }
-    }
-}
-
-fn call_abandon<D: Disk>(phase: Phase<D>) -> (Phase<D>, Reply)
-    ensures { Stepped D.Disk.reads D.Disk.may D.Disk.did phase Abandon result.0 result.1 }
-{
-    match phase {
-        Phase::Idle(disk) => (Phase::Idle(disk), Reply::NotNow),
-        Phase::Opened(session) => (Phase::Opened(session), Reply::NotNow),
-        Phase::Editing(batch) => (Phase::Opened(batch.abandon()), Reply::Done),
-    }
-}
-
-fn call_close<D: Disk>(phase: Phase<D>) -> (Phase<D>, Reply)
-    ensures { Stepped D.Disk.reads D.Disk.may D.Disk.did phase Close result.0 result.1 }
-{
-    match phase {
-        Phase::Idle(disk) => (Phase::Idle(disk), Reply::NotNow),
-        Phase::Opened(session) => (Phase::Idle(session.close()), Reply::Done),
-        Phase::Editing(batch) => (Phase::Editing(batch), Reply::NotNow),
-    }
-}
-
 // The disk under a phase, whose session ends.
 pub fn into_disk<D: Disk>(phase: Phase<D>) -> D
     ensures { result ≡ disk_of phase }
@@ -151,19 +72,7 @@ pub fn into_disk<D: Disk>(phase: Phase<D>) -> D
     }
 }
 
-fn lose<S: Supply>(supply: &mut S, phase: Phase<S::Make>) -> (Phase<S::Make>, Reply)
-    ensures { Stepped S.Make.Disk.reads S.Make.Disk.may S.Make.Disk.did phase Lose result.0 result.1 }
-{
-    match phase {
-        Phase::Idle(disk) => (Phase::Idle(supply.next(disk)), Reply::Done),
-        Phase::Opened(session) => (Phase::Idle(supply.next(session.close())), Reply::Done),
-        Phase::Editing(batch) => (
-            Phase::Idle(supply.next(batch.abandon().close())),
-            Reply::Done,
-        ),
-    }
-}
-
+// Makes one call. A phase that does not allow it stays, and nothing is done.
 fn make_call<S: Supply>(
     supply: &mut S,
     phase: Phase<S::Make>,
@@ -171,14 +80,27 @@ fn make_call<S: Supply>(
 ) -> (Phase<S::Make>, Reply)
     ensures { Stepped S.Make.Disk.reads S.Make.Disk.may S.Make.Disk.did phase call result.0 result.1 }
 {
-    match call {
-        Call::Open => call_open(phase),
-        Call::Begin => call_begin(phase),
-        Call::Apply(edit) => call_edit(phase, edit),
-        Call::Commit => call_commit(phase),
-        Call::Abandon => call_abandon(phase),
-        Call::Close => call_close(phase),
-        Call::Lose => lose(supply, phase),
+    match (phase, call) {
+        (Phase::Idle(disk), Call::Open) => {
+            let (session, answer) = open(disk);
+            let shown = *session.solid();
+            let reply = answer.map_or_else(Reply::Refused, |count| Reply::Shown(count, shown));
+            (Phase::Opened(session), reply)
+        }
+        (Phase::Opened(session), Call::Begin) => (Phase::Editing(session.begin()), Reply::Done),
+        (Phase::Editing(mut batch), Call::Apply(edit)) => {
+            let reply = batch.edit(edit).map_or_else(Reply::Refused, Reply::Placed);
+            (Phase::Editing(batch), reply)
+        }
+        (Phase::Editing(batch), Call::Commit) => {
+            let (session, answer) = batch.commit();
+            let reply = answer.map_or_else(Reply::Refused, Reply::Kept);
+            (Phase::Opened(session), reply)
+        }
+        (Phase::Editing(batch), Call::Abandon) => (Phase::Opened(batch.abandon()), Reply::Done),
+        (Phase::Opened(session), Call::Close) => (Phase::Idle(session.close()), Reply::Done),
+        (phase, Call::Lose) => (Phase::Idle(supply.next(into_disk(phase))), Reply::Done),
+        (phase, _) => (phase, Reply::NotNow),
     }
 }
 
@@ -188,11 +110,10 @@ pub fn run<S: Supply>(supply: &mut S, disk: S::Make, steps: &mut [Step]) -> Phas
     ensures law { Blank S.Make.Disk.reads S.Make.Disk.may disk → 2 ≤ length (S.Make.Disk.reads disk) → length (S.Make.Disk.reads disk) ≤ 1000 → KeptBy S.Make.Disk.reads S.Make.Disk.may S.Make.Disk.did disk steps.new (disk_of result) }
 {
     let mut phase = Phase::Idle(disk);
-    for i in 0..steps.len() {
-        let call = steps[i].call;
-        let (next, reply) = make_call(supply, phase, call);
+    for step in steps.iter_mut() {
+        let (next, reply) = make_call(supply, phase, step.call);
         phase = next;
-        steps[i] = Step { call, reply };
+        step.reply = reply;
     }
     phase
 }

@@ -2,7 +2,7 @@
 #![tactic(auto)]
 
 ghost use Rattle.std.specs.Prelude.{◌≡◌};
-ghost use Rattle.session.specs.Sessions.{Begins, Commits, Edits, Opens, kept_fault};
+ghost use Rattle.session.specs.Sessions.{Begins, Commits, Edits, Opens, after_refused, answered};
 
 use boundary::Edit;
 use disk::Disk;
@@ -11,12 +11,11 @@ use journal::{Draft, Extent};
 use solid::Solid;
 
 // The disk, the solid of the whole batches on it, and where the next batch goes.
-// The fault is that of a refused open, or of a disk call in a commit.
+// Instead of that there is the fault of a refused open, or of a disk call in a commit, once there was one.
 pub struct Session<D> {
     disk: D,
     solid: Solid,
-    extent: Extent,
-    fault: Option<JournalFault>,
+    next: Result<Extent, JournalFault>,
 }
 
 // A session with a batch begun: the session as it was, the draft of its solid and the edits that made it.
@@ -26,51 +25,28 @@ pub struct Batch<D> {
     edits: Draft,
 }
 
-// The extent of a session whose open was refused.
-const NOWHERE: Extent = Extent {
-    count: 0,
-    batches: 0,
-    tail: 0,
-};
-
 // Reads the journal of a disk, and answers how many whole batches stand.
 pub fn open<D: Disk>(mut disk: D) -> (Session<D>, Result<u32, SessionFault>)
     ensures { Opens D.Disk.reads D.Disk.did disk result.0 result.1 }
 {
-    let (solid, answer) = journal::read(&mut disk);
-    match answer {
-        Ok(extent) => {
-            (
-                Session {
-                    disk,
-                    solid,
-                    extent,
-                    fault: None,
-                },
-                Ok(extent.batches),
-            )
-        }
-        Err(fault) => {
-            (
-                Session {
-                    disk,
-                    solid,
-                    extent: NOWHERE,
-                    fault: Some(fault),
-                },
-                Err(SessionFault::FromJournal(fault)),
-            )
-        }
-    }
+    let (solid, next) = journal::read(&mut disk);
+    (Session { disk, solid, next }, answered(next))
 }
 
-// The fault that a commit leaves a session with: one of the disk.
-fn kept_fault(fault: JournalFault) -> Option<JournalFault>
-    ensures { result ≡ kept_fault fault }
+// What is answered beside a session: the number of batches behind which the extent lies.
+fn answered(next: Result<Extent, JournalFault>) -> Result<u32, SessionFault>
+    ensures { result ≡ answered next }
+{
+    Ok(next?.batches)
+}
+
+// Where the next batch goes after a refused commit: a fault of the disk stays.
+fn after_refused(extent: Extent, fault: JournalFault) -> Result<Extent, JournalFault>
+    ensures { result ≡ after_refused extent fault }
 {
     match fault {
-        JournalFault::Disk(_) => Some(fault),
-        _ => None,
+        JournalFault::Disk(_) => Err(fault),
+        _ => Ok(extent),
     }
 }
 
@@ -102,8 +78,7 @@ impl<D: Disk> Session<D> {
         let Session {
             disk,
             solid: _,
-            extent: _,
-            fault: _,
+            next: _,
         } = self;
         disk
     }
@@ -114,13 +89,11 @@ impl<D: Disk> Batch<D> {
     pub fn edit(&mut self, edit: Edit) -> Result<u32, SessionFault>
         ensures { Edits self.old edit self.new result }
     {
-        if let Some(fault) = self.session.fault {
-            return Err(SessionFault::FromJournal(fault));
-        }
+        self.session.next?;
         let position = self.edits.room()?;
-        if let Err(why) = self.draft.apply(edit) {
-            return Err(SessionFault::FromSolid(SolidFault::Refused { why, position }));
-        }
+        self.draft
+            .apply(edit)
+            .map_err(|why| SolidFault::Refused { why, position })?;
         let _ = self.edits.push(edit);
         Ok(position)
     }
@@ -146,38 +119,20 @@ impl<D: Disk> Batch<D> {
             draft,
             edits,
         } = self;
-        if let Some(fault) = session.fault {
-            return (session, Err(SessionFault::FromJournal(fault)));
-        }
+        let extent = match session.next {
+            Ok(extent) => extent,
+            Err(fault) => return (session, Err(SessionFault::FromJournal(fault))),
+        };
         let Session {
             mut disk,
             solid,
-            extent,
-            fault: _,
+            next: _,
         } = session;
-        match journal::append(&mut disk, extent, &edits) {
-            Ok(behind) => {
-                (
-                    Session {
-                        disk,
-                        solid: draft,
-                        extent: behind,
-                        fault: None,
-                    },
-                    Ok(behind.batches),
-                )
-            }
-            Err(fault) => {
-                (
-                    Session {
-                        disk,
-                        solid,
-                        extent,
-                        fault: kept_fault(fault),
-                    },
-                    Err(SessionFault::FromJournal(fault)),
-                )
-            }
-        }
+        let appended = journal::append(&mut disk, extent, &edits);
+        let (solid, next) = match appended {
+            Ok(behind) => (draft, Ok(behind)),
+            Err(fault) => (solid, after_refused(extent, fault)),
+        };
+        (Session { disk, solid, next }, answered(appended))
     }
 }

@@ -11,30 +11,30 @@ use Rattle.runs.proofs.run.Goals as goal
 same_calls : (ss : List Step) (i : ℕ) (d : Step) (r : Reply) → i < length ss → map call_of (set ss i (record { call = (get_or ss i d).call; reply = r })) ≡ map call_of ss
 same_calls ss i d r lt = map-set call_of ss i (record { call = (get_or ss i d).call; reply = r }) ∙ ap (set (map call_of ss) i) (sym (get_or-map call_of ss i d (call_of d) lt)) ∙ set-get_or (map call_of ss) i (call_of d)
 
-pub loop-i-init : goal.loop-i-init
-loop-i-init g c = record {
+pub loop-step-init : goal.loop-step-init
+loop-step-init g c = record {
   calls = refl;
   law = λ b lo hi. going_start g.S.Make.Disk.reads g.S.Make.Disk.may g.S.Make.Disk.gone g.S.Make.Disk.did g.met.S.Make.Disk.stands g.met.S.Make.Disk.keeps c.args.disk lo hi b;
 }
 
-pub loop-i-preserved : goal.loop-i-preserved
-loop-i-preserved g c =
-    let lt : c.loop-i.i < length c.loop-i.steps = omega arith in
+pub loop-step-preserved : goal.loop-step-preserved
+loop-step-preserved g c =
+    let lt : c.loop-step.step-index < length c.loop-step.steps = omega arith in
     record {
-      calls = same_calls c.loop-i.steps c.loop-i.i _ c.make_call-next.result.1 lt ∙ c.loop-i.invariant.calls;
+      calls = same_calls c.loop-step.steps c.loop-step.step-index _ c.make_call-next.result.1 lt ∙ c.loop-step.invariant.calls;
       law = λ b lo hi.
           subst (λ ss. Going g.S.Make.Disk.reads g.S.Make.Disk.may g.S.Make.Disk.gone g.S.Make.Disk.did g.met.S.Make.Disk.stands g.met.S.Make.Disk.keeps c.args.disk lo hi ss c.make_call-next.result.0)
-          (sym (take_more_set c.loop-i.steps c.loop-i.i _ lt))
-          (going_more g.S.Make.Disk.reads g.S.Make.Disk.may g.S.Make.Disk.gone g.S.Make.Disk.did g.met.S.Make.Disk.stands g.met.S.Make.Disk.keeps c.args.disk lo hi c.loop-i.phase _ c.make_call-next.result.0 c.make_call-next.result.1 (c.loop-i.invariant.law b lo hi) c.make_call-next.ensures);
+          (sym (take_more_set c.loop-step.steps c.loop-step.step-index _ lt))
+          (going_more g.S.Make.Disk.reads g.S.Make.Disk.may g.S.Make.Disk.gone g.S.Make.Disk.did g.met.S.Make.Disk.stands g.met.S.Make.Disk.keeps c.args.disk lo hi c.loop-step.phase _ c.make_call-next.result.0 c.make_call-next.result.1 (c.loop-step.invariant.law b lo hi) c.make_call-next.ensures);
     }
 
 pub returns : goal.returns
 returns g c = record {
-  calls = c.loop-i.invariant.calls;
+  calls = c.loop-step.invariant.calls;
   law = λ b lo hi.
-      let h = c.loop-i.invariant.law b lo hi in
+      let h = c.loop-step.invariant.law b lo hi in
       record {
         ledger = record { acknowledged = h.acknowledged; doubt = h.doubt; stage = h.stage };
-        run = subst (λ ss. Runs g.S.Make.Disk.reads g.S.Make.Disk.may g.S.Make.Disk.did c.args.disk ss (disk_of c.loop-i.phase) (record { acknowledged = h.acknowledged; doubt = h.doubt; stage = h.stage })) (take_all c.loop-i.i c.loop-i.steps (omega arith)) h.run;
+        run = subst (λ ss. Runs g.S.Make.Disk.reads g.S.Make.Disk.may g.S.Make.Disk.did c.args.disk ss (disk_of c.loop-step.phase) (record { acknowledged = h.acknowledged; doubt = h.doubt; stage = h.stage })) (take_all c.loop-step.step-index c.loop-step.steps (omega arith)) h.run;
       };
 }

@@ -1,14 +1,19 @@
-use Rattle.std.proofs.Common.{Ok, Err, refl, ap}
-use Rattle.session.specs.Sessions.{faulted, appended}
+use Rattle.std.proofs.Common.{sym, refl, ap, ◌∙◌}
+use Rattle.session.specs.Sessions.{answered, faulted, appended}
 use Rattle.session.proofs.Batch.commit.Goals as goal
-
-pub returns-in-Some : goal.returns-in-Some
-returns-in-Some g c = faulted c.in-Some.fault c.in-Some.is refl refl
-
-pub returns-in-Ok : goal.returns-in-Ok
-returns-in-Ok g c = appended c.in_default.is (Ok c.in-Ok.behind) c.append.new.disk c.in-Ok.ensures.is refl refl
+use Rattle.session.proofs.Batch.commit.Goals.{in-Ok-appended, in-Err-appended}
 
 pub returns-in-Err : goal.returns-in-Err
-returns-in-Err g c =
-    appended c.in_default.is (Err c.in-Err.fault) c.append.new.disk c.in-Err.ensures.is
-    (ap (λ f. record { disk = c.append.new.disk; solid = c.args.self.session.solid; extent = c.args.self.session.extent; fault = f }) c.kept_fault.ensures) refl
+returns-in-Err g c = faulted c.in-Err.fault c.in-Err.is refl refl
+
+pub returns : goal.returns
+returns g c =
+    let append = c.append-appended in
+    elim c.match-appended.branch [
+      | in-Ok-appended w ↦
+          appended c.in-Ok.extent c.in-Ok.is append.result append.new.disk append.ensures.is (rw (w.next-is, w.in-Ok-appended.is) refl)
+          (c.answered.ensures ∙ ap answered (w.appended-is ∙ sym w.in-Ok-appended.is))
+      | in-Err-appended w ↦
+          appended c.in-Ok.extent c.in-Ok.is append.result append.new.disk append.ensures.is (rw (w.next-is, w.after_refused.ensures, w.in-Err-appended.is) refl)
+          (c.answered.ensures ∙ ap answered (w.appended-is ∙ sym w.in-Err-appended.is))
+    ]
