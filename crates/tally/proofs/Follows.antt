@@ -18,7 +18,7 @@ use Rattle.standing.proofs.Layouts.{blocks_more, few_blocks}
 use Rattle.runs.specs.declared.Call.{Call}
 use Rattle.runs.specs.declared.Call.TheVariants.{Open, Begin, Apply, Commit, Abandon, Close, Lose}
 use Rattle.runs.specs.declared.Reply.{Reply}
-use Rattle.runs.specs.declared.Reply.TheVariants.{Placed, Kept, Refused}
+use Rattle.runs.specs.declared.Reply.TheVariants.{Kept, Refused}
 use Rattle.runs.specs.Ledgers.{Ledger, Stage, idle, in_session, in_batch, built, staged, carried, after_at, after_call, after_loss}
 use Rattle.runs.specs.Laws.{open_told, draft_told, carried_told, foretold}
 use Rattle.tally.specs.declared.Tally.{Tally}
@@ -112,9 +112,6 @@ lost_follows t z c is l cs small few at here =
     ∙ lost_at l.acknowledged l.stage cs small l.doubt c (subst (λ x. unwrap_or x.doubt 0 ≤ 16) at few) (here ∙ ap (λ x. get_or cs (unwrap_or (doubtful x) 0) Unreadable) at)
 
 -- the counts as the code changes them
-pub placed : {e : Edit} {c : Call} {r : Reply} {k m : ℕ} (t : Tally) → c ≡ Apply e → r ≡ Placed k → m ≡ sum k 1 → with_begun t (Some m) ≡ noted t c r
-placed {r = r} t p q w = ap (λ j. with_begun t (Some j)) w ∙ sym (ap (λ x. noted t x r) p ∙ ap (by_edit t) q)
-
 pub kept : {c : Call} {r : Reply} {k : ℕ} {s : Tally} (t : Tally) → c ≡ Commit → r ≡ Kept k → s ≡ acknowledged t k → s ≡ noted t c r
 kept {r = r} t p q w = w ∙ sym (ap (λ x. noted t x r) p ∙ ap (by_commit t) q)
 

@@ -18,7 +18,7 @@ use records::Record;
 use runs::{Call, Reply};
 
 // The acknowledged batches and the block behind them, the edits of the begun batch and of the one in doubt, and whether a 20 has met the session.
-#[derive(Clone, Copy)]
+#[derive(Clone, Copy, Default)]
 pub struct Tally {
     pub batches: u32,
     pub tail: u32,
@@ -31,13 +31,7 @@ impl Tally {
     pub fn new() -> Tally
         ensures { result ≡ tally_of nothing }
     {
-        Tally {
-            batches: 0,
-            tail: 0,
-            begun: None,
-            doubt: None,
-            faulted: false,
-        }
+        Tally::default()
     }
 
     // After a call that was answered so. Where the reply is the one that the ledger foretells, these are the counts of the ledger after it.
@@ -45,38 +39,17 @@ impl Tally {
         ensures is { self.new ≡ noted self.old call reply }
         ensures ledger { (n : ℕ) (l : Ledger) (cut : Option DiskFault) → n ≤ 1000 → self.old ≡ tally_of l → reply ≡ foretold n l.acknowledged l.stage call cut → self.new ≡ tally_of (after_call n l call cut) }
     {
-        match call {
-            Call::Open => {
-                if let Reply::Refused(_) = reply {
-                    self.faulted = true;
-                }
+        match (call, reply) {
+            (Call::Open, Reply::Refused(_)) => self.faulted = true,
+            (Call::Begin, Reply::Done) => self.begun = Some(0),
+            (Call::Apply(_), Reply::Placed(position)) => {
+                self.begun = Some(position.saturating_add(1));
             }
-            Call::Begin => {
-                if let Reply::Done = reply {
-                    self.begun = Some(0);
-                }
-            }
-            Call::Apply(_) => {
-                if let Reply::Placed(position) = reply {
-                    self.begun = Some(position.saturating_add(1));
-                }
-            }
-            Call::Commit => match reply {
-                Reply::Kept(number) => self.acknowledge(number),
-                Reply::Refused(fault) => self.drop_batch(fault),
-                _ => {}
-            },
-            Call::Abandon => {
-                if let Reply::Done = reply {
-                    self.begun = None;
-                }
-            }
-            Call::Close => {
-                if let Reply::Done = reply {
-                    self.faulted = false;
-                }
-            }
-            Call::Lose => {}
+            (Call::Commit, Reply::Kept(number)) => self.acknowledge(number),
+            (Call::Commit, Reply::Refused(fault)) => self.drop_batch(fault),
+            (Call::Abandon, Reply::Done) => self.begun = None,
+            (Call::Close, Reply::Done) => self.faulted = false,
+            _ => {}
         }
     }
 
@@ -94,13 +67,12 @@ impl Tally {
     fn drop_batch(&mut self, fault: SessionFault)
         ensures { self.new ≡ dropped self.old fault }
     {
-        if let SessionFault::FromJournal(refused) = fault {
-            if let JournalFault::Disk(_) = refused {
-                if !self.faulted {
-                    self.doubt = self.begun;
-                    self.faulted = true;
-                }
+        match fault {
+            SessionFault::FromJournal(JournalFault::Disk(_)) if !self.faulted => {
+                self.doubt = self.begun;
+                self.faulted = true;
             }
+            _ => {}
         }
         self.begun = None;
     }
@@ -109,10 +81,7 @@ impl Tally {
     pub fn doubtful(&self) -> Option<u32>
         ensures { result ≡ doubtful self.now }
     {
-        match self.doubt {
-            Some(edits) => Some(self.tail.saturating_add(edits)),
-            None => None,
-        }
+        self.doubt.map(|edits| self.tail.saturating_add(edits))
     }
 
     // After a loss that left this content in that block: the counts of the ledger after it.
@@ -137,17 +106,13 @@ impl Tally {
 fn is_closing(content: Content, number: u32, edits: u32) -> bool
     ensures { result ≡ closes (record_in content) number edits }
 {
-    let Content::Bytes(bytes) = content else {
-        return false;
-    };
-    let Some(record) = records::decode(&bytes) else {
-        return false;
-    };
-    match record {
-        Record::Closing {
-            number: closed,
-            count,
-        } => closed == number && u32::from(count) == edits,
-        Record::Change { .. } => false,
+    match standing::record_in(content) {
+        Some(
+            Record::Closing {
+                number: closed,
+                count,
+            },
+        ) => closed == number && u32::from(count) == edits,
+        _ => false,
     }
 }

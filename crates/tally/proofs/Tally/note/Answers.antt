@@ -1,12 +1,5 @@
-use Rattle.tally.proofs.Follows.{follows, placed, kept}
+use Rattle.tally.proofs.Follows.{follows, kept}
 use Rattle.tally.proofs.Tally.note.Goals as goal
 
-pub returns-in-Placed : goal.returns-in-Placed
-returns-in-Placed c =
-    let is = placed c.args.self.now c.in-Apply.is c.in-Placed.is c.saturating_add.ensures in
-    record { is = is; ledger = follows c.args.self.now _ c.args.call c.args.reply is }
-
-pub returns-in-Kept : goal.returns-in-Kept
-returns-in-Kept c =
-    let is = kept c.args.self.now c.in-Commit.is c.in-Kept.is c.acknowledge.ensures in
-    record { is = is; ledger = follows c.args.self.now _ c.args.call c.args.reply is }
+pub returns-in-Commit-Kept-clause-ledger : goal.returns-in-Commit-Kept-clause-ledger
+returns-in-Commit-Kept-clause-ledger c = follows c.args.self.now _ c.args.call c.args.reply (kept c.args.self.now c.in-Commit-Kept.is-0 c.in-Commit-Kept.is-1 c.acknowledge.ensures)
