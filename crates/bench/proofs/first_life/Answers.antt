@@ -6,14 +6,11 @@ use Rattle.bench.proofs.Views.{lent_cells, stopped_once, stopped_twice, lived_tw
 use Rattle.bench.proofs.first_life.Goals as goal
 
 pub returns : goal.returns
-returns c =
+returns g c =
     let start : stopped_twice c.new-disk.result ≡ ((c.args.cells.now, c.args.stops.0), c.args.stops.1) =
     ap stopped_twice c.new-disk.ensures ∙ ap (λ u. (stopped_once u, c.args.stops.1)) c.new-3.ensures
     ∙ ap (λ w. ((lent_cells w, c.args.stops.0), c.args.stops.1)) c.new-2.ensures.is ∙ ap (λ l. ((l, c.args.stops.0), c.args.stops.1)) c.new.ensures.held in
-    record {
-      lived = (
-        stopped_twice c.perform_all.new.disk,
-        subst (λ v. Chain BehindTwo v (calls_of c.perform_all.new.steps) (stopped_twice c.perform_all.new.disk)) start (lived_twice c.new-disk.result c.perform_all.new.disk (calls_of c.perform_all.new.steps) c.perform_all.ensures.calls),
-      );
-      acts = c.perform_all.ensures.acts;
-    }
+    let calls = calls_of c.args.acts.now c.perform_all-answers.result in (
+      stopped_twice c.perform_all-answers.new.disk,
+      subst (λ v. Chain BehindTwo v calls (stopped_twice c.perform_all-answers.new.disk)) start (lived_twice c.new-disk.result c.perform_all-answers.new.disk calls c.perform_all-answers.ensures),
+    )
