@@ -1,18 +1,33 @@
 -- The steps of the loops: what is written so far and what is left to write together are the text.
-use Rattle.std.proofs.Common.{◌≡◌, ℕ, zero, suc, ◌+◌, ◌-◌, ◌<◌, ◌≤◌, Bool, true, false, cond, List, [], ◌∷◌, ◌++◌, map, length, get_or, drop, Some, None, decimal, Option, sym, refl, ap, ◌∙◌, append_assoc, append-nil, arith, eq-eqb, ne_eqb}
+use Rattle.std.proofs.Common.{◌≡◌, ℕ, zero, suc, ◌+◌, ◌-◌, ◌<◌, ◌≤◌, Bool, true, false, cond, List, [], ◌∷◌, ◌++◌, map, length, get_or, drop, Some, None, decimal, Option, sym, refl, ap, ◌∙◌, append_assoc, append-nil, inl, inr, MatchOption, arith, eq-eqb, ne_eqb}
 use Rattle.std.proofs.lemmas.List.{at_drop_more, at_drop_all}
+use Rattle.std.proofs.lemmas.Bool.{cases_eq}
+use Rattle.std.proofs.Output.{has_written_append, has_written_of_eq}
+use Rattle.std.specs.Fmt.{HasWritten}
+use Rattle.std.specs.declared.fmt.Formatter.{Formatter}
 use Rattle.boundary.specs.declared.Boundary.{Boundary}
 use Rattle.boundary.specs.Tables.{next, run}
-use Rattle.listing.specs.Listing.{words, smallest, ring, row_line, lines_from}
+use Rattle.listing.specs.declared.Counts.{Counts}
+use Rattle.listing.specs.Listing.{spaced, words, counts_text, counts_line, smallest, ring, row_line, lines_from}
 
--- the part p of what is left is written
-pub written : (a b p left rest whole : List ℕ) → b ≡ a ++ p → left ≡ p ++ rest → a ++ left ≡ whole → b ++ rest ≡ whole
-written a b p left rest whole now split before =
-    ap (λ l. l ++ rest) now ∙ append_assoc a p rest ∙ sym (ap (λ l. a ++ l) split) ∙ before
+-- of the text `whole` all but `left` is written, which took the formatter from f to g
+pub record Begun {W : Type 0} (took : W → List ℕ → W → Type 0) (f g : Formatter W) (left whole : List ℕ) : Type 0 where
+  pub so_far : List ℕ
+  pub wrote : HasWritten took f so_far g
+  pub joined : so_far ++ left ≡ whole
 
--- nothing is left
-pub finished : (a left whole : List ℕ) → left ≡ [] → a ++ left ≡ whole → a ≡ whole
-finished a left whole none before = sym (append-nil a) ∙ sym (ap (λ l. a ++ l) none) ∙ before
+module _ {W : Type 0} (took : W → List ℕ → W → Type 0) (f g : Formatter W) (left whole : List ℕ) (b : Begun took f g left whole) where
+  -- the part p of what is left is written
+  pub written : (h : Formatter W) (p rest : List ℕ) → left ≡ p ++ rest → HasWritten took g p h → Begun took f h rest whole
+  written h p rest split w = record {
+    so_far = b.so_far ++ p;
+    wrote = has_written_append took f b.so_far g p h b.wrote w;
+    joined = append_assoc b.so_far p rest ∙ sym (ap (λ l. b.so_far ++ l) split) ∙ b.joined;
+  }
+
+  -- nothing is left
+  pub finished : left ≡ [] → HasWritten took f whole g
+  finished none = has_written_of_eq took f b.so_far whole g (sym (append-nil b.so_far) ∙ sym (ap (λ l. b.so_far ++ l) none) ∙ b.joined) b.wrote
 
 module _ {X : Type 0} (text : ℕ → X → List ℕ) (t : List (Option X)) (k : ℕ) where
   pub lines_more : (r : Option X) → k < length t → r ≡ get_or t k r → lines_from text k (drop k t) ≡ row_line text k r ++ lines_from text (k + 1) (drop (k + 1) t)
@@ -23,58 +38,64 @@ module _ {X : Type 0} (text : ℕ → X → List ℕ) (t : List (Option X)) (k :
   unfolding lines_from
   lines_past le = at_drop_all (lines_from text k) t k le
 
--- the number h, of those below n, passes the test or not
-module _ (p : ℕ → Bool) (n h : ℕ) (lt : h < n) where
-  more : n - h ≡ suc (n - (h + 1))
-  more = omega arith
-
-  pub smallest_yes : p h ≡ true → smallest p (n - h) h ≡ Some h
-  unfolding smallest
-  smallest_yes is = ap (λ k. smallest p k h) more ∙ ap (λ t. cond t (Some h) (smallest p (n - (h + 1)) (h + 1))) is
-
-  pub smallest_no : p h ≡ false → smallest p (n - h) h ≡ smallest p (n - (h + 1)) (h + 1)
-  unfolding smallest
-  smallest_no is = ap (λ k. smallest p k h) more ∙ ap (λ t. cond t (Some h) (smallest p (n - (h + 1)) (h + 1))) is
-
-pub smallest_past : (p : ℕ → Bool) (n h : ℕ) → n ≤ h → smallest p (n - h) h ≡ None
+-- the first number, of the n from h on, that passes the test
+pub smallest_first : (p : ℕ → Bool) (n h : ℕ) (r : Option ℕ) → MatchOption r ((k : ℕ) → h ≤ k → k < h + n → p k ≡ false) (λ i. (h ≤ i) × (i < h + n) × (p i ≡ true) × ((k : ℕ) → h ≤ k → k < i → p k ≡ false)) → r ≡ smallest p n h
 unfolding smallest
-smallest_past p n h le = let none : n - h ≡ 0 = omega arith in ap (λ k. smallest p k h) none
+smallest_first p zero h None none = refl
+smallest_first p zero h (Some i) first = absurd (omega (arith, first.0, first.1))
+smallest_first p (suc n) h None none =
+    smallest_first p n (h + 1) None (λ k lo hi. none k (omega arith) (omega arith))
+    ∙ sym (ap (λ t. cond t (Some h) (smallest p n (h + 1))) (none h (omega arith) (omega arith)))
+smallest_first p (suc n) h (Some i) first = elim (cases_eq h i) [
+  | inl e ↦ ap Some (sym e) ∙ sym (ap (λ t. cond t (Some h) (smallest p n (h + 1))) (ap p e ∙ first.2))
+  | inr ne ↦
+      smallest_first p n (h + 1) (Some i) (omega (arith, first.0), omega (arith, first.1), first.2, λ k lo hi. first.3 k (omega arith) hi)
+      ∙ sym (ap (λ t. cond t (Some h) (smallest p n (h + 1))) (first.3 h (omega arith) (omega (arith, first.0))))
+]
 
--- what is left of the line of a ring, from h on up to just before k
+-- what is left of a ring, from h on up to just before k
 unfoldable pub left : (ℕ → ℕ) → ℕ → ℕ → ℕ → List ℕ
-left f n h k = words (map decimal (run f n h k))
+left f n h k = spaced (map decimal (run f n h k))
 
-pub left_stop : (f : ℕ → ℕ) (n h k : ℕ) → h ≡ k → left f n h k ≡ 10 ∷ []
+pub left_stop : (f : ℕ → ℕ) (n h k : ℕ) → h ≡ k → left f n h k ≡ []
 unfolding left run
 left_stop f zero h k same = refl
-left_stop f (suc n) h k same = ap (λ t. words (map decimal (cond t [] (h ∷ run f n (f h) k)))) (eq-eqb h k same)
+left_stop f (suc n) h k same = ap (λ t. spaced (map decimal (cond t [] (h ∷ run f n (f h) k)))) (eq-eqb h k same)
 
 -- c of n turns are done
-pub left_past : (f : ℕ → ℕ) (n c h k : ℕ) → n ≤ c → left f (n - c) h k ≡ 10 ∷ []
+pub left_past : (f : ℕ → ℕ) (n c h k : ℕ) → n ≤ c → left f (n - c) h k ≡ []
 unfolding left run
 left_past f n c h k le = let none : n - c ≡ 0 = omega arith in ap (λ m. left f m h k) none
 
 left_suc : (f : ℕ → ℕ) (n h k : ℕ) → (h ≡ k → ⊥) → left f (suc n) h k ≡ (32 ∷ decimal h) ++ left f n (f h) k
 unfolding left run
-left_suc f n h k apart = ap (λ t. words (map decimal (cond t [] (h ∷ run f n (f h) k)))) (ne_eqb h k apart)
+left_suc f n h k apart = ap (λ t. spaced (map decimal (cond t [] (h ∷ run f n (f h) k)))) (ne_eqb h k apart)
 
 pub left_more : (f : ℕ → ℕ) (n c h g k : ℕ) → c < n → (h ≡ k → ⊥) → g ≡ f h → left f (n - c) h k ≡ (32 ∷ decimal h) ++ left f (n - (c + 1)) g k
 left_more f n c h g k lt apart on =
     let one : n - c ≡ suc (n - (c + 1)) = omega arith in
     ap (λ m. left f m h k) one ∙ left_suc f (n - (c + 1)) h k apart ∙ ap (λ x. (32 ∷ decimal h) ++ left f (n - (c + 1)) x k) (sym on)
 
-ring_begins : (f : ℕ → ℕ) (n h : ℕ) → words (map decimal (h ∷ run f n (f h) h)) ≡ (32 ∷ decimal h) ++ left f n (f h) h
+ring_begins : (f : ℕ → ℕ) (n h : ℕ) → spaced (map decimal (h ∷ run f n (f h) h)) ≡ (32 ∷ decimal h) ++ left f n (f h) h
 unfolding left run
 ring_begins f n h = refl
 
--- its first half-edge, what followed up to the end of the loop, and the line feed
-pub ring_written : (b : Boundary) (h : ℕ) (o o₁ o₂ o₃ rest : List ℕ) → o₁ ≡ o ++ (32 ∷ decimal h) → o₂ ++ rest ≡ o₁ ++ left (next b) 383 (next b h) h → rest ≡ 10 ∷ [] → o₃ ≡ o₂ ++ (10 ∷ []) → o₃ ≡ o ++ words (map decimal (ring b h))
+-- its first half-edge, and then the others
+pub ring_is : (b : Boundary) (h : ℕ) → (32 ∷ decimal h) ++ left (next b) 383 (next b h) h ≡ spaced (map decimal (ring b h))
 unfolding ring
-ring_written b h o o₁ o₂ o₃ rest first middle end last =
-    let others = left (next b) 383 (next b h) h in
-    last ∙ sym (ap (λ l. o₂ ++ l) end) ∙ middle ∙ ap (λ l. l ++ others) first ∙ append_assoc o (32 ∷ decimal h) others ∙ sym (ap (λ l. o ++ l) (ring_begins (next b) 383 h))
+ring_is b h = sym (ring_begins (next b) 383 h)
 
--- one text after another is written
-pub all_written : (o c v e f l o₁ o₂ o₃ o₄ o₅ : List ℕ) → o₁ ≡ o ++ c → o₂ ≡ o₁ ++ v → o₃ ≡ o₂ ++ e → o₄ ≡ o₃ ++ f → o₅ ≡ o₄ ++ l → o₅ ≡ o ++ (c ++ v ++ e ++ f ++ l)
-all_written o c v e f l o₁ o₂ o₃ o₄ o₅ p q r s t =
-    t ∙ ap (λ x. x ++ l) (s ∙ ap (λ x. x ++ f) (r ∙ ap (λ x. x ++ e) (q ∙ ap (λ x. x ++ v) p))) ∙ simp append_assoc
+-- the words and then the line feed are the words to the end of the line
+pub to_end : (ws : List (List ℕ)) → spaced ws ++ (10 ∷ []) ≡ words ws
+to_end [] = refl
+to_end (w ∷ ws) = append_assoc (32 ∷ w) (spaced ws) (10 ∷ []) ∙ ap (λ l. (32 ∷ w) ++ l) (to_end ws)
+
+-- the lines of the tables, one after another
+pub all_lines : (n m : Counts) → n ≡ m → (v e f l : List ℕ) → counts_text n ++ (10 ∷ (v ++ (e ++ (f ++ l)))) ≡ counts_line m ++ v ++ e ++ f ++ l
+all_lines n m same v e f l =
+    ap (λ k. counts_text k ++ (10 ∷ (v ++ (e ++ (f ++ l))))) same
+    ∙ regroup (counts_text m)
+    ∙ ap (λ c. (99 ∷ c) ++ v ++ e ++ f ++ l) (to_end (decimal m.vertices ∷ decimal m.edges ∷ decimal m.faces ∷ decimal m.loops ∷ decimal m.shells ∷ decimal m.handles ∷ []))
+  where
+    regroup : (c : List ℕ) → c ++ (10 ∷ (v ++ (e ++ (f ++ l)))) ≡ (c ++ (10 ∷ [])) ++ v ++ e ++ f ++ l
+    regroup c = simp append_assoc

@@ -1,5 +1,7 @@
 -- A boundary as text, in bytes: a line of the counts, and then a line for each used row. A line is a letter and then words, each after one space, and ends with a line feed.
+--     spaced ws      the words ws
 --     words ws       the words ws to the end of a line
+--     counts_text n  the line of the counts, but for its line feed
 --     counts_line, vertex_line, edge_line, face_line, loop_line    the line of the counts, and of the row k of each table
 --     lines text t   the lines of the used rows of the table t, by rising number
 --     ring b h       the half-edges of the ring from h on
@@ -15,6 +17,10 @@ use Rattle.boundary.specs.declared.Boundary.{Boundary}
 use Rattle.boundary.specs.Tables.{count, next, owner, half_used, run}
 use Rattle.listing.specs.declared.Counts.{Counts}
 
+abbrev pub spaced : List (List ℕ) → List ℕ
+spaced [] = []
+spaced (w ∷ ws) = codes " " ++ w ++ spaced ws
+
 abbrev pub words : List (List ℕ) → List ℕ
 words [] = 10 ∷ []
 words (w ∷ ws) = codes " " ++ w ++ words ws
@@ -22,6 +28,9 @@ words (w ∷ ws) = codes " " ++ w ++ words ws
 -- the numbers of used rows, and the handles
 abbrev pub counted : Boundary → Counts
 counted b = record { vertices = count b.vertices; edges = count b.edges; faces = count b.faces; loops = count b.loops; shells = count b.shells; handles = b.handles }
+
+abbrev pub counts_text : Counts → List ℕ
+counts_text n = codes "c" ++ spaced (decimal n.vertices ∷ decimal n.edges ∷ decimal n.faces ∷ decimal n.loops ∷ decimal n.shells ∷ decimal n.handles ∷ [])
 
 abbrev pub counts_line : Counts → List ℕ
 counts_line n = codes "c" ++ words (decimal n.vertices ∷ decimal n.edges ∷ decimal n.faces ∷ decimal n.loops ∷ decimal n.shells ∷ decimal n.handles ∷ [])

@@ -1,13 +1,15 @@
 // A boundary as text: a line of its counts, and then a line for each used row.
 #![tactic(auto)]
 
-ghost use Rattle.std.specs.Prelude.{◌≡◌, ℕ, List, ◌++◌, map, IfOk, string_bytes, decimal, OnOk};
+ghost use Rattle.std.specs.Prelude.{◌≡◌, ℕ, List, map, Some, IfOk, string_bytes, decimal};
+ghost use Rattle.std.specs.Fmt.{WritesOnOk};
 ghost use Rattle.boundary.specs.declared.Boundary.{Boundary};
 ghost use Rattle.boundary.specs.Tables.{count};
-ghost use Rattle.listing.specs.Listing.{words, counted, counts_line, vertex_line, edge_line, face_line, loop_line, lies_on, smallest, ring, place, row_line, lines, listed};
+ghost use Rattle.listing.specs.Listing.{spaced, counted, counts_text, vertex_line, edge_line, face_line, loop_line, lies_on, smallest, ring, place, row_line, lines, listed};
 
 use boundary::{Boundary, Edge, Face, Loop, Point, half, row};
 use std::alloc::{AllocError, Global};
+use std::fmt::{self, Display, Formatter, Write};
 
 // Two of each edge.
 const HALF_EDGES: u16 = 384;
@@ -23,51 +25,179 @@ struct Counts {
     handles: u32,
 }
 
+// The line of the counts, but for its line feed.
+impl Display for Counts {
+    ghost output = { λ n. Some (counts_text n) };
+
+    fn fmt<W: Write>(&self, f: &mut Formatter<W>) -> fmt::Result {
+        let Counts {
+            vertices,
+            edges,
+            faces,
+            loops,
+            shells,
+            handles,
+        } = *self;
+        write!(f, "c {vertices} {edges} {faces} {loops} {shells} {handles}")
+    }
+}
+
+// The ring from the half-edge `start` on: each number after a space.
+#[derive(Clone, Copy)]
+struct Ring<'a> {
+    boundary: &'a Boundary,
+    start: u16,
+}
+
+impl Display for Ring<'_> {
+    ghost output = { λ r. Some (spaced (map decimal (ring r.boundary.now r.start))) };
+
+    fn fmt<W: Write>(&self, f: &mut Formatter<W>) -> fmt::Result {
+        let Ring { boundary, start } = *self;
+        write!(f, " {start}")?;
+        let mut h = half(&boundary.edges, start).next;
+        for _ in 1..HALF_EDGES {
+            if h == start {
+                break;
+            }
+            write!(f, " {h}")?;
+            h = half(&boundary.edges, h).next;
+        }
+        Ok(())
+    }
+}
+
+// Where the loop `l` lies: at its lone vertex, or else along its ring.
+#[derive(Clone, Copy)]
+struct Place<'a> {
+    boundary: &'a Boundary,
+    l: usize,
+    lone: Option<u16>,
+}
+
+impl Display for Place<'_> {
+    ghost output = { λ p. Some (spaced (place p.boundary.now p.l p.lone)) };
+
+    fn fmt<W: Write>(&self, f: &mut Formatter<W>) -> fmt::Result {
+        let Place { boundary, l, lone } = *self;
+        if let Some(v) = lone {
+            return write!(f, " v {v}");
+        }
+        match first_half(boundary, l) {
+            Some(start) => write!(f, "{}", Ring { boundary, start }),
+            None => Ok(()),
+        }
+    }
+}
+
 // A row of a table, which has a line of the listing.
 trait Row: Sized {
     ghost text: { Boundary → ℕ → Self → List ℕ };
 
-    // Writes the line of this row, whose number is `k`.
-    fn write(&self, k: usize, b: &Boundary, out: &mut String) -> Result<(), AllocError>
-        ensures { OnOk result (string_bytes out.new ≡ string_bytes out.old ++ text b.now k self.now) };
+    // Writes the line of this row of `b`, whose number is `k`.
+    fn write<W: Write>(&self, k: usize, b: &Boundary, f: &mut Formatter<W>) -> fmt::Result
+        ensures { WritesOnOk W.write_str_gives f.old result (text b.now k self.now) f.new };
 }
 
 impl Row for Point {
     ghost text = { λ _. vertex_line };
 
-    fn write(&self, k: usize, _b: &Boundary, out: &mut String) -> Result<(), AllocError> {
+    fn write<W: Write>(&self, k: usize, _b: &Boundary, f: &mut Formatter<W>) -> fmt::Result {
         let Point { x, y, z } = *self;
-        writeln!(out, "v {k} {x} {y} {z}")
+        writeln!(f, "v {k} {x} {y} {z}")
     }
 }
 
 impl Row for Edge {
     ghost text = { λ _. edge_line };
 
-    fn write(&self, k: usize, _b: &Boundary, out: &mut String) -> Result<(), AllocError> {
+    fn write<W: Write>(&self, k: usize, _b: &Boundary, f: &mut Formatter<W>) -> fmt::Result {
         let even = self.even.start;
         let odd = self.odd.start;
-        writeln!(out, "e {k} {even} {odd}")
+        writeln!(f, "e {k} {even} {odd}")
     }
 }
 
 impl Row for Face {
     ghost text = { λ _. face_line };
 
-    fn write(&self, k: usize, _b: &Boundary, out: &mut String) -> Result<(), AllocError> {
+    fn write<W: Write>(&self, k: usize, _b: &Boundary, f: &mut Formatter<W>) -> fmt::Result {
         let Face { shell, outer } = *self;
-        writeln!(out, "f {k} {shell} {outer}")
+        writeln!(f, "f {k} {shell} {outer}")
     }
 }
 
 impl Row for Loop {
     ghost text = { loop_line };
 
-    fn write(&self, k: usize, b: &Boundary, out: &mut String) -> Result<(), AllocError> {
-        let face = self.face;
-        write!(out, "l {k} {face}")?;
-        write_place(k, self.lone, b, out)?;
+    fn write<W: Write>(&self, k: usize, b: &Boundary, f: &mut Formatter<W>) -> fmt::Result {
+        let Loop { face, lone } = *self;
+        let place = Place {
+            boundary: b,
+            l: k,
+            lone,
+        };
+        writeln!(f, "l {k} {face}{place}")
+    }
+}
+
+// An unused row has no line.
+impl<R: Row> Row for Option<R> {
+    ghost text = { λ b. row_line (R.text b) };
+
+    fn write<W: Write>(&self, k: usize, b: &Boundary, f: &mut Formatter<W>) -> fmt::Result {
+        match self {
+            Some(row) => row.write(k, b, f),
+            None => Ok(()),
+        }
+    }
+}
+
+// The lines of the used rows of a table.
+#[derive(Drop)]
+struct Lines<'a, R> {
+    boundary: &'a Boundary,
+    rows: &'a [Option<R>],
+}
+
+impl<R: Row> Display for Lines<'_, R> {
+    ghost output = { λ l. Some (lines (R.text l.boundary.now) l.rows.now) };
+
+    fn fmt<W: Write>(&self, f: &mut Formatter<W>) -> fmt::Result {
+        for (k, row) in self.rows.iter().enumerate() {
+            row.write(k, self.boundary, f)?;
+        }
         Ok(())
+    }
+}
+
+// The whole listing.
+#[derive(Clone, Copy)]
+struct Listed<'a>(&'a Boundary);
+
+impl Display for Listed<'_> {
+    ghost output = { λ l. Some (listed l.0.now) };
+
+    fn fmt<W: Write>(&self, f: &mut Formatter<W>) -> fmt::Result {
+        let boundary = self.0;
+        let counts = counted(boundary);
+        let vertices = Lines {
+            boundary,
+            rows: &boundary.vertices,
+        };
+        let edges = Lines {
+            boundary,
+            rows: &boundary.edges,
+        };
+        let faces = Lines {
+            boundary,
+            rows: &boundary.faces,
+        };
+        let loops = Lines {
+            boundary,
+            rows: &boundary.loops,
+        };
+        write!(f, "{counts}\n{vertices}{edges}{faces}{loops}")
     }
 }
 
@@ -82,72 +212,7 @@ fn lies_on(b: &Boundary, l: usize, h: u16) -> bool
 fn first_half(b: &Boundary, l: usize) -> Option<u16>
     ensures { result ≡ smallest (lies_on b.now l) 384 0 }
 {
-    for h in 0..HALF_EDGES {
-        if lies_on(b, l, h) {
-            return Some(h);
-        }
-    }
-    None
-}
-
-// Writes the ring from the half-edge `start` on, to the end of the line.
-fn write_ring(start: u16, b: &Boundary, out: &mut String) -> Result<(), AllocError>
-    ensures { OnOk result (string_bytes out.new ≡ string_bytes out.old ++ words (map decimal (ring b.now start))) }
-{
-    write!(out, " {start}")?;
-    let mut h = half(&b.edges, start).next;
-    for _ in 1..HALF_EDGES {
-        if h == start {
-            break;
-        }
-        write!(out, " {h}")?;
-        h = half(&b.edges, h).next;
-    }
-    writeln!(out)?;
-    Ok(())
-}
-
-// Writes where the loop `l` lies, to the end of the line: at its lone vertex, or else along its ring.
-fn write_place(
-    l: usize,
-    lone: Option<u16>,
-    b: &Boundary,
-    out: &mut String,
-) -> Result<(), AllocError>
-    ensures { OnOk result (string_bytes out.new ≡ string_bytes out.old ++ words (place b.now l lone)) }
-{
-    if let Some(v) = lone {
-        return writeln!(out, " v {v}");
-    }
-    match first_half(b, l) {
-        Some(h) => write_ring(h, b, out),
-        None => writeln!(out),
-    }
-}
-
-// Writes the line of the row whose number is `k`, if it is used.
-fn write_row<R: Row>(
-    k: usize,
-    row: &Option<R>,
-    b: &Boundary,
-    out: &mut String,
-) -> Result<(), AllocError>
-    ensures { OnOk result (string_bytes out.new ≡ string_bytes out.old ++ row_line (R.text b.now) k row.now) }
-{
-    match row {
-        Some(row) => row.write(k, b, out),
-        None => Ok(()),
-    }
-}
-
-// Writes the lines of the used rows.
-fn write_rows<R: Row>(rows: &[Option<R>], b: &Boundary, out: &mut String) -> Result<(), AllocError>
-    ensures { OnOk result (string_bytes out.new ≡ string_bytes out.old ++ lines (R.text b.now) rows.now) }
-{
-    for (k, row) in rows.iter().enumerate() {
-        write_row(k, row, b, out)?;
-    }
-    Ok(())
+    (0..HALF_EDGES).find(|h| lies_on(b, l, *h))
 }
 
 // How many rows are used.
@@ -164,7 +229,7 @@ fn used_rows<T>(rows: &[Option<T>]) -> usize
 }
 
 // Counts what is used.
-fn counts_of(b: &Boundary) -> Counts
+fn counted(b: &Boundary) -> Counts
     ensures { result ≡ counted b.now }
 {
     Counts {
@@ -177,42 +242,43 @@ fn counts_of(b: &Boundary) -> Counts
     }
 }
 
-// Writes the line of the counts.
-fn write_counts(counts: Counts, out: &mut String) -> Result<(), AllocError>
-    ensures { OnOk result (string_bytes out.new ≡ string_bytes out.old ++ counts_line counts) }
+// The line of the counts, but for its line feed.
+pub fn counts_text(heap: Global, b: &Boundary) -> Result<String, AllocError>
+    ensures { IfOk result (λ t. string_bytes t ≡ counts_text (counted b.now)) }
 {
-    let Counts {
-        vertices,
-        edges,
-        faces,
-        loops,
-        shells,
-        handles,
-    } = counts;
-    writeln!(
-        out,
-        "c {vertices} {edges} {faces} {loops} {shells} {handles}"
-    )?;
-    Ok(())
-}
-
-// Writes the whole listing.
-fn write_all(b: &Boundary, out: &mut String) -> Result<(), AllocError>
-    ensures { OnOk result (string_bytes out.new ≡ string_bytes out.old ++ listed b.now) }
-{
-    write_counts(counts_of(b), out)?;
-    write_rows(&b.vertices, b, out)?;
-    write_rows(&b.edges, b, out)?;
-    write_rows(&b.faces, b, out)?;
-    write_rows(&b.loops, b, out)?;
-    Ok(())
+    counted(b).to_string(heap)
 }
 
 // The boundary as text.
 pub fn listing(heap: Global, b: &Boundary) -> Result<String, AllocError>
     ensures { IfOk result (λ t. string_bytes t ≡ listed b.now) }
 {
-    let mut out = String::new(heap);
-    write_all(b, &mut out)?;
-    Ok(out)
+    Listed(b).to_string(heap)
+}
+
+#[cfg(test)]
+mod tests {
+    use super::*;
+    use std::test::Fail;
+
+    // No row is used.
+    #[test]
+    fn counts_of_nothing(rt: HostRuntime) -> Result<(), Fail> {
+        let counts = counts_text(rt.alloc(), &Boundary::empty())?;
+        assert_eq!(rt; counts.as_str(), "c 0 0 0 0 0 0");
+        Ok(())
+    }
+
+    // Each count has its own place in the line.
+    #[test]
+    fn counts_in_their_order(rt: HostRuntime) -> Result<(), Fail> {
+        let mut b = Boundary::empty();
+        b.vertices[127] = Some(Point { x: 1, y: 2, z: 3 });
+        b.faces[0] = Some(Face { shell: 0, outer: 0 });
+        b.faces[95] = Some(Face { shell: 0, outer: 1 });
+        b.handles = 4_294_967_295;
+        let counts = counts_text(rt.alloc(), &b)?;
+        assert_eq!(rt; counts.as_str(), "c 1 0 2 0 0 4294967295");
+        Ok(())
+    }
 }
