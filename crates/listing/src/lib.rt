@@ -16,13 +16,13 @@ const HALF_EDGES: u16 = 384;
 
 // How many rows of each table are used, and the handles.
 #[derive(Clone, Copy)]
-struct Counts {
-    vertices: usize,
-    edges: usize,
-    faces: usize,
-    loops: usize,
-    shells: usize,
-    handles: u32,
+pub struct Counts {
+    pub vertices: usize,
+    pub edges: usize,
+    pub faces: usize,
+    pub loops: usize,
+    pub shells: usize,
+    pub handles: u32,
 }
 
 // The line of the counts, but for its line feed.
@@ -229,7 +229,7 @@ fn used_rows<T>(rows: &[Option<T>]) -> usize
 }
 
 // Counts what is used.
-fn counted(b: &Boundary) -> Counts
+pub fn counted(b: &Boundary) -> Counts
     ensures { result ≡ counted b.now }
 {
     Counts {
@@ -240,13 +240,6 @@ fn counted(b: &Boundary) -> Counts
         shells: used_rows(&b.shells),
         handles: b.handles,
     }
-}
-
-// The line of the counts, but for its line feed.
-pub fn counts_text(heap: Global, b: &Boundary) -> Result<String, AllocError>
-    ensures { IfOk result (λ t. string_bytes t ≡ counts_text (counted b.now)) }
-{
-    counted(b).to_string(heap)
 }
 
 // The boundary as text.
@@ -264,7 +257,7 @@ mod tests {
     // No row is used.
     #[test]
     fn counts_of_nothing(rt: HostRuntime) -> Result<(), Fail> {
-        let counts = counts_text(rt.alloc(), &Boundary::empty())?;
+        let counts = counted(&Boundary::empty()).to_string(rt.alloc())?;
         assert_eq!(rt; counts.as_str(), "c 0 0 0 0 0 0");
         Ok(())
     }
@@ -277,7 +270,7 @@ mod tests {
         b.faces[0] = Some(Face { shell: 0, outer: 0 });
         b.faces[95] = Some(Face { shell: 0, outer: 1 });
         b.handles = 4_294_967_295;
-        let counts = counts_text(rt.alloc(), &b)?;
+        let counts = counted(&b).to_string(rt.alloc())?;
         assert_eq!(rt; counts.as_str(), "c 1 0 2 0 0 4294967295");
         Ok(())
     }
