@@ -8,28 +8,28 @@ use Rattle.disk.specs.Settlings.{May, Went, blank_cells, read_all}
 use Rattle.disk.specs.Stops.{Stopped}
 use Rattle.runs.specs.declared.Step.{Step}
 use Rattle.runs.specs.Laws.{KeptBy}
-use Rattle.sessions.specs.declared.bench.Memory.{Memory}
+use Rattle.disk.specs.declared.Cell.{Cell}
 
 -- a settling disk behind a stop
 abbrev pub Make : Type 0
-Make = Stop (Settling Memory)
+Make = Stop (Settling (List Cell))
 
 abbrev pub reads_of : Make → List Content
-reads_of s = read_all s.disk.cells.cells
+reads_of s = read_all s.disk.cells
 
 abbrev pub may_of : Make → ℕ → Content → Type 0
-may_of s = May s.disk.cells.cells
+may_of s = May s.disk.cells
 
 -- a call of the settling disk
-abbrev pub below : Settling Memory → Call → Settling Memory → Type 0
-below s c t = Went s.cells.cells c t.cells.cells
+abbrev pub below : Settling (List Cell) → Call → Settling (List Cell) → Type 0
+below s c t = Went s.cells c t.cells
 
 abbrev pub did_of : Make → Call → Make → Type 0
-did_of s c t = Stopped (λ u. read_all u.cells.cells) below s.disk s.left c t.disk t.left
+did_of s c t = Stopped (λ u. read_all u.cells) below s.disk s.left c t.disk t.left
 
 -- sixteen blank cells behind a stop of 999
 abbrev pub first_disk : Make
-first_disk = record { disk = record { cells = record { cells = blank_cells 16 } }; left = 999 }
+first_disk = record { disk = record { cells = blank_cells 16 }; left = 999 }
 
 -- these steps are a run from the disk d, of which the law speaks
 abbrev pub Law : Make → List Step → Type 0

@@ -1,93 +1,84 @@
 // A bench that supplies the disks of a run: one settling disk, behind a new stop after each loss of power.
 ghost use Rattle.sessions.specs.Benches.{Law, first_disk};
 
-use disk::{Cell, Cells, Settling, Stop};
+use disk::{Cell, Content, Settling, Stop};
 use runs::{Step, Supply};
+use std::fmt::{self, Display, Formatter, Write};
+use tally::Tally;
 
-// How many losses the bench can make.
-pub const LOSSES: usize = 5;
+// How many blocks the disk has.
+const BLOCKS: usize = 16;
 
-// The stop of the first disk.
+// The stop of the first disk, and of one behind the losses of the table.
 pub const FIRST_STOP: u32 = 999;
 
-// The letters of the blocks at the loss `i`.
-pub fn letters(i: usize) -> &'static str {
-    match i {
-        1 => "ssssssn",
-        2 => "nnnnnnnnn",
-        4 => "ssssssssu",
-        _ => "s",
-    }
-}
+// The cells of the disk.
+type Memory = [Cell; BLOCKS];
 
-// The stop of the disk after the loss `i`: it cuts the last flush of a commit, the write of a closing record, or a read.
-pub fn stop(i: usize) -> u32 {
-    match i {
-        0 | 3 => 19,
-        1 => 18,
-        2 => 5,
-        _ => FIRST_STOP,
-    }
-}
-
-// The cells of a disk, in its own memory.
+// A loss of power: the letters of the blocks, and the stop of the disk that is found then.
+// Once it came, there are the cells that it left.
 #[derive(Clone, Copy)]
-pub struct Memory {
-    cells: [Cell; 16],
+pub struct Loss {
+    letters: &'static str,
+    stop: u32,
+    left: Option<Memory>,
 }
 
-impl Cells for Memory {
-    ghost held = { λ m. m.cells };
+// The stops cut the last flush of a commit, the write of a closing record, or a read.
+const LOSSES: [Loss; 5] = [
+    Loss {
+        letters: "s",
+        stop: 19,
+        left: None,
+    },
+    Loss {
+        letters: "ssssssn",
+        stop: 18,
+        left: None,
+    },
+    Loss {
+        letters: "nnnnnnnnn",
+        stop: 5,
+        left: None,
+    },
+    Loss {
+        letters: "s",
+        stop: 19,
+        left: None,
+    },
+    Loss {
+        letters: "ssssssssu",
+        stop: FIRST_STOP,
+        left: None,
+    },
+];
 
-    fn len(&self) -> usize {
-        let cells: &[Cell] = &self.cells;
-        cells.len()
-    }
-
-    fn at(&self, k: usize) -> Option<Cell> {
-        let cells: &[Cell] = &self.cells;
-        if k < cells.len() {
-            Some(cells[k])
-        } else {
-            None
-        }
-    }
-
-    fn put(&mut self, k: usize, cell: Cell) {
-        let cells: &mut [Cell] = &mut self.cells;
-        if k < cells.len() {
-            cells[k] = cell;
-        }
+impl Loss {
+    // What it left in the last block of the batch in doubt, if there is one.
+    pub fn last_block(&self, tally: Tally) -> Content {
+        let cell = tally
+            .doubtful()
+            .and_then(|block| self.left?.get(block as usize).copied());
+        cell.map_or(Content::Unreadable, |cell| cell.settled)
     }
 }
 
-// How many losses there have been, and the cells that each left.
+impl Display for Loss {
+    fn fmt<W: Write>(&self, f: &mut Formatter<W>) -> fmt::Result {
+        let Loss { letters, stop, .. } = *self;
+        write!(f, "lose {letters}, stop {stop}")
+    }
+}
+
+// The losses in the order in which they come.
 #[derive(Clone, Copy)]
 pub struct Bench {
-    lost: usize,
-    left: [Memory; 5],
+    pub losses: [Loss; 5],
 }
 
 impl Bench {
     pub fn new() -> Bench {
-        Bench {
-            lost: 0,
-            left: [Memory {
-                cells: [Cell::blank(); 16],
-            }; 5],
-        }
-    }
-
-    // What the loss `i` left in block `k`.
-    pub fn left(&self, i: usize, k: usize) -> Option<Cell> {
-        if i < LOSSES { self.left[i].at(k) } else { None }
-    }
-
-    fn note(&mut self, cells: Memory) {
-        if self.lost < LOSSES {
-            self.left[self.lost] = cells;
-            self.lost += 1;
-        }
+        Bench { losses: LOSSES }
     }
 }
 
@@ -95,12 +86,15 @@ impl Supply for Bench {
     type Make = Stop<Settling<Memory>>;
 
     fn next(&mut self, lost: Stop<Settling<Memory>>) -> Stop<Settling<Memory>> {
-        let i = self.lost;
         let mut disk = lost.into_disk();
-        disk.lose(letters(i).as_bytes());
+        let Some(loss) = self.losses.iter_mut().find(|loss| loss.left.is_none()) else {
+            disk.lose(b"");
+            return Stop::new(disk, FIRST_STOP);
+        };
+        disk.lose(loss.letters.as_bytes());
         let cells = disk.into_cells();
-        self.note(cells);
-        Stop::new(Settling::new(cells), stop(i))
+        loss.left = Some(cells);
+        Stop::new(Settling::new(cells), loss.stop)
     }
 }
 
@@ -108,10 +102,7 @@ impl Supply for Bench {
 pub fn play(bench: &mut Bench, steps: &mut [Step])
     ensures { Law first_disk steps.new }
 {
-    let memory = Memory {
-        cells: [Cell::blank(); 16],
-    };
-    let disk = Stop::new(Settling::new(memory), FIRST_STOP);
+    let disk = Stop::new(Settling::new([Cell::blank(); BLOCKS]), FIRST_STOP);
     let phase = runs::run(bench, disk, steps);
     let _ = runs::into_disk(phase);
 }

@@ -2,9 +2,6 @@
 use boundary::{Edit, Point};
 use runs::Call;
 
-// How many calls the list has.
-pub const LENGTH: usize = 63;
-
 // A shell, its face, the outer loop of that and on it a lone vertex.
 const POINT: Call = Call::Apply(Edit::Mvfs {
     shell: 0,

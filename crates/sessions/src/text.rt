@@ -1,93 +1,101 @@
-// Prints calls, replies and tallies.
+// Calls, replies and tallies as they are printed.
 use boundary::{Edit, Point};
+use disk::Fault;
+use listing::counted;
 use runs::{Call, Reply};
-use solid::Solid;
-use std::io;
+use std::fmt::{self, Display, Formatter, Write};
 use tally::Tally;
 
-fn tell_edit(rt: &HostRuntime, edit: Edit) -> io::Result<()> {
-    match edit {
-        Edit::Mvfs {
-            shell,
-            face,
-            outer,
-            vertex,
-            at: Point { x, y, z },
-        } => print!(rt; "mvfs {shell} {face} {outer} {vertex} {x} {y} {z}"),
-        Edit::Kvfs { shell } => print!(rt; "kvfs {shell}"),
-        Edit::Mev {
-            place,
-            edge,
-            vertex,
-            at: Point { x, y, z },
-        } => print!(rt; "mev {place} {edge} {vertex} {x} {y} {z}"),
-        Edit::Kev { half } => print!(rt; "kev {half}"),
-        Edit::Mef {
-            from,
-            to,
-            edge,
-            face,
-            outer,
-        } => print!(rt; "mef {from} {to} {edge} {face} {outer}"),
-        Edit::Kef { half } => print!(rt; "kef {half}"),
-        Edit::Kemr { half, inner } => print!(rt; "kemr {half} {inner}"),
-        Edit::Mekr { to, inner, edge } => print!(rt; "mekr {to} {inner} {edge}"),
-        Edit::Kfmrh { kept, killed } => print!(rt; "kfmrh {kept} {killed}"),
-        Edit::Move {
-            vertex,
-            at: Point { x, y, z },
-        } => print!(rt; "move {vertex} {x} {y} {z}"),
-    }
-}
+// Shows a value of another crate.
+#[derive(Drop)]
+pub struct Shown<T>(pub T);
 
-// A call but for a loss of power, which says how it was.
-pub fn tell_call(rt: &HostRuntime, call: Call, letters: &str, stop: u32) -> io::Result<()> {
-    match call {
-        Call::Open => print!(rt; "open: "),
-        Call::Begin => print!(rt; "begin: "),
-        Call::Apply(edit) => {
-            tell_edit(rt, edit)?;
-            print!(rt; ": ")
-        }
-        Call::Commit => print!(rt; "commit: "),
-        Call::Abandon => print!(rt; "abandon: "),
-        Call::Close => print!(rt; "close: "),
-        Call::Lose => print!(rt; "lose {letters}, stop {stop}: "),
-    }
-}
-
-fn tell_solid(rt: &HostRuntime, count: u32, solid: &Solid) -> io::Result<()> {
-    let listed = listing::listing(rt.alloc(), solid.boundary())?;
-    let counts = listed.as_str().lines().next().unwrap_or("");
-    print!(rt; "shows {count}, {counts}")
-}
-
-pub fn tell_reply(rt: &HostRuntime, reply: &Reply) -> io::Result<()> {
-    match reply {
-        Reply::NotNow => print!(rt; "not now"),
-        Reply::Done => print!(rt; "done"),
-        Reply::Shown(count, solid) => tell_solid(rt, *count, solid),
-        Reply::Placed(position) => print!(rt; "at {position}"),
-        Reply::Kept(number) => print!(rt; "batch {number}"),
-        Reply::Refused(fault) => {
-            let number = fault.number();
-            let place = fault.place();
-            print!(rt; "refused {number} at {place}")
+impl Display for Shown<Edit> {
+    fn fmt<W: Write>(&self, f: &mut Formatter<W>) -> fmt::Result {
+        match self.0 {
+            Edit::Mvfs {
+                shell,
+                face,
+                outer,
+                vertex,
+                at: Point { x, y, z },
+            } => write!(f, "mvfs {shell} {face} {outer} {vertex} {x} {y} {z}"),
+            Edit::Kvfs { shell } => write!(f, "kvfs {shell}"),
+            Edit::Mev {
+                place,
+                edge,
+                vertex,
+                at: Point { x, y, z },
+            } => write!(f, "mev {place} {edge} {vertex} {x} {y} {z}"),
+            Edit::Kev { half } => write!(f, "kev {half}"),
+            Edit::Mef {
+                from,
+                to,
+                edge,
+                face,
+                outer,
+            } => write!(f, "mef {from} {to} {edge} {face} {outer}"),
+            Edit::Kef { half } => write!(f, "kef {half}"),
+            Edit::Kemr { half, inner } => write!(f, "kemr {half} {inner}"),
+            Edit::Mekr { to, inner, edge } => write!(f, "mekr {to} {inner} {edge}"),
+            Edit::Kfmrh { kept, killed } => write!(f, "kfmrh {kept} {killed}"),
+            Edit::Move {
+                vertex,
+                at: Point { x, y, z },
+            } => write!(f, "move {vertex} {x} {y} {z}"),
         }
     }
 }
 
-fn tell_edits(rt: &HostRuntime, edits: Option<u32>, what: &str) -> io::Result<()> {
-    match edits {
-        Some(count) => print!(rt; ", {count} edits {what}"),
-        None => print!(rt; ", none {what}"),
+impl Display for Shown<Call> {
+    fn fmt<W: Write>(&self, f: &mut Formatter<W>) -> fmt::Result {
+        match self.0 {
+            Call::Open => write!(f, "open"),
+            Call::Begin => write!(f, "begin"),
+            Call::Apply(edit) => write!(f, "{}", Shown(edit)),
+            Call::Commit => write!(f, "commit"),
+            Call::Abandon => write!(f, "abandon"),
+            Call::Close => write!(f, "close"),
+            Call::Lose => write!(f, "lose"),
+        }
     }
 }
 
-pub fn tell_tally(rt: &HostRuntime, tally: Tally) -> io::Result<()> {
-    let batches = tally.batches;
-    print!(rt; " | {batches} batches")?;
-    tell_edits(rt, tally.begun, "begun")?;
-    tell_edits(rt, tally.doubt, "in doubt")?;
-    println!(rt; "")
+impl Display for Shown<Reply> {
+    fn fmt<W: Write>(&self, f: &mut Formatter<W>) -> fmt::Result {
+        match self.0 {
+            Reply::NotNow => write!(f, "not now"),
+            Reply::Done => write!(f, "done"),
+            Reply::Shown(count, solid) => {
+                let counts = counted(solid.boundary());
+                write!(f, "shows {count}, {counts}")
+            }
+            Reply::Placed(position) => write!(f, "at {position}"),
+            Reply::Kept(number) => write!(f, "batch {number}"),
+            Reply::Refused(fault) => {
+                let number = fault.number();
+                let place = fault.place();
+                write!(f, "refused {number} at {place}")
+            }
+        }
+    }
+}
+
+// The edits of a batch, if there is one.
+impl Display for Shown<Option<u32>> {
+    fn fmt<W: Write>(&self, f: &mut Formatter<W>) -> fmt::Result {
+        match self.0 {
+            Some(count) => write!(f, "{count} edits"),
+            None => write!(f, "none"),
+        }
+    }
+}
+
+impl Display for Shown<Tally> {
+    fn fmt<W: Write>(&self, f: &mut Formatter<W>) -> fmt::Result {
+        let batches = self.0.batches;
+        let begun = Shown(self.0.begun);
+        let doubt = Shown(self.0.doubt);
+        write!(f, "{batches} batches, {begun} begun, {doubt} in doubt")
+    }
 }
