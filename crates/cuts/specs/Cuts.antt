@@ -1,12 +1,11 @@
 -- A batch that is journaled behind a stop, and what is read after a loss of power, said of the cells alone.
-use Rattle.std.specs.Prelude.{◌≡◌, ℕ, ◌<◌, Bool, false, List, [], ◌∷◌, ℤ, pos, Some, None, Option, Result, slice_index_or}
-use Rattle.std.specs.List.{slice_get}
+use Rattle.std.specs.Prelude.{◌≡◌, ℕ, ◌<◌, Bool, false, List, [], ◌∷◌, ℤ, pos, is_some, Result, slice_index_or}
 use Rattle.boundary.specs.declared.Boundary.{Boundary}
 use Rattle.boundary.specs.declared.Edit.{Edit}
 use Rattle.boundary.specs.declared.Edit.TheVariants.{Mvfs, Mev}
 use Rattle.boundary.specs.declared.Point.{Point}
 use Rattle.disk.specs.declared.Cell.{Cell}
-use Rattle.disk.specs.Settlings.{Went, read_all, lost, blank_cells}
+use Rattle.disk.specs.Settlings.{Went, no_cell, read_all, lost, blank_cells}
 use Rattle.faults.specs.declared.JournalFault.{JournalFault}
 use Rattle.journal.specs.declared.Extent.{Extent}
 use Rattle.journal.specs.Appends.{Appends}
@@ -41,15 +40,14 @@ pub record Appended (cs : List Cell) (k : ℕ) (ds : List Cell) : Type 0 where
   pub calls : Appends BehindStop (cs, k) nothing the_batch answer (ds, left)
 
 -- whether a cell waits
-abbrev pub waits_at : Option Cell → Bool
-waits_at (Some a) = a.waiting
-waits_at None = false
+abbrev pub waits : Cell → Bool
+waits a = is_some a.waiting
 
 -- after the append to eight blank blocks these wait
-pub record Waits (k : ℕ) (ws : List Bool) : Type 0 where
+pub record WaitsAfter (k : ℕ) (ws : List Bool) : Type 0 where
   pub cells : List Cell
   pub appended : Appended (blank_cells 8) k cells
-  pub marks : (i : ℕ) → i < 8 → slice_index_or ws i false ≡ waits_at (slice_get cells i)
+  pub marks : (i : ℕ) → i < 8 → slice_index_or ws i false ≡ waits (slice_index_or cells i no_cell)
 
 -- the power was lost after it with the letters ls, and of the cells that this left a reading gave the solid b and the answer r
 pub record Survived (k : ℕ) (ls : List ℕ) (b : Boundary) (r : Result Extent JournalFault) : Type 0 where

@@ -3,16 +3,20 @@
 #![tactic(auto)]
 
 ghost use Rattle.std.specs.Prelude.{◌≡◌};
-ghost use Rattle.cuts.specs.Cuts.{Appended, Survived, Waits, flat, the_batch};
+ghost use Rattle.disk.specs.Settlings.{blank_cells};
+ghost use Rattle.cuts.specs.Cuts.{Appended, Survived, WaitsAfter, flat, the_batch};
 ghost use Rattle.journal.specs.Drafts.{drafted};
 
 use boundary::{Edit, Point};
-use disk::{Cell, Cells, Disk, Lent, Settling, Stop};
+use disk::{Cell, Fault, Settling, Stop};
 use faults::JournalFault;
 use journal::{Draft, Extent};
 use solid::Solid;
-use std::alloc::{AllocError, Global};
+use std::fmt::{self, Display, Formatter, Write};
 use std::io;
+
+// How many blocks the disk has.
+const BLOCKS: usize = 8;
 
 // Nothing is journaled yet, on eight blocks.
 const NOTHING: Extent = Extent {
@@ -60,92 +64,97 @@ fn batch() -> Draft
     draft
 }
 
-// The disk over the cells after the batch was appended behind a stop.
-fn appended(cells: &mut [Cell], stop: u32) -> Settling<Lent<'_>>
-    ensures { Appended cells.old stop result.cells.cells.now }
+// The disk after the batch was appended behind a stop.
+fn appended(stop: u32) -> Settling<[Cell; BLOCKS]>
+    ensures { Appended (blank_cells 8) stop result.cells }
 {
-    let mut disk = Stop::new(Settling::new(Lent::new(cells)), stop);
+    let mut disk = Stop::new(Settling::new([Cell::blank(); BLOCKS]), stop);
     let _ = journal::append(&mut disk, NOTHING, &batch());
     disk.into_disk()
 }
 
 // Which blocks wait after the append.
-fn waiting(stop: u32) -> [bool; 8]
-    ensures { Waits stop result }
+fn waiting(stop: u32) -> Waits
+    ensures { WaitsAfter stop result.0 }
 {
-    let mut cells = [Cell::blank(); 8];
-    let left = appended(&mut cells, stop).into_cells();
-    let mut waits = [false; 8];
-    for k in 0..8 {
-        if let Some(cell) = left.at(k) {
-            waits[k] = cell.waiting;
-        }
-    }
-    waits
+    Waits(
+        appended(stop)
+            .into_cells()
+            .map(|cell| cell.waiting.is_some()),
+    )
 }
 
 // What is read where the power was lost, with these letters, after the append.
 fn survived(stop: u32, letters: &[u8]) -> (Solid, Result<Extent, JournalFault>)
     ensures { Survived stop letters.now result.0.boundary result.1 }
 {
-    let mut cells = [Cell::blank(); 8];
-    let mut disk = appended(&mut cells, stop);
+    let mut disk = appended(stop);
     disk.lose(letters);
     journal::read(&mut disk)
 }
 
-// How many choices of letters there are: three at each block that waits.
-fn choices(waits: &[bool; 8]) -> usize {
-    let mut n: usize = 1;
-    for wait in waits {
-        if *wait {
-            n = n.saturating_mul(3);
-        }
+// The blocks that wait.
+#[derive(Clone, Copy)]
+struct Waits([bool; BLOCKS]);
+
+impl Waits {
+    // How many choices of letters there are: three at each block that waits.
+    fn choices(&self) -> usize {
+        self.0
+            .iter()
+            .filter(|waits| **waits)
+            .fold(1, |n: usize, _| n.saturating_mul(LETTERS.len()))
     }
-    n
+
+    // A choice by its number: in base three, the last block that waits has the lowest digit.
+    fn choice(&self, number: usize) -> Choice {
+        let mut letters = [None; BLOCKS];
+        let mut rest = number;
+        for (letter, waits) in letters.iter_mut().zip(self.0.iter()).rev() {
+            if *waits {
+                *letter = Some(LETTERS[rest % 3]);
+                rest /= 3;
+            }
+        }
+        Choice(letters)
+    }
 }
 
-// A choice of letters by its number: in base three, the last block that waits has the lowest digit. The others have an s.
-fn choice(waits: &[bool; 8], number: usize) -> [u8; 8] {
-    let mut letters = [b's'; 8];
-    let mut rest = number;
-    for k in (0..8).rev() {
-        if waits[k] {
-            letters[k] = LETTERS[rest % 3];
-            rest /= 3;
-        }
+// A letter at each block that waits.
+#[derive(Clone, Copy)]
+struct Choice([Option<u8>; BLOCKS]);
+
+impl Choice {
+    // The letters of a loss: the others have an s.
+    fn letters(&self) -> [u8; BLOCKS] {
+        self.0.map(|letter| letter.unwrap_or(b's'))
     }
-    letters
 }
 
-// The letters of the blocks that wait, or a dash where none does.
-fn shown(heap: Global, waits: &[bool; 8], letters: &[u8; 8]) -> Result<String, AllocError> {
-    let mut text = String::new(heap);
-    for k in 0..8 {
-        if waits[k] {
-            text.push(char::from(letters[k]))?;
+// The letters, or a dash where no block waits.
+impl Display for Choice {
+    fn fmt<W: Write>(&self, f: &mut Formatter<W>) -> fmt::Result {
+        if self.0.iter().all(|letter| letter.is_none()) {
+            return f.write_char('-');
         }
+        for letter in self.0.iter().flatten() {
+            f.write_char(char::from(*letter))?;
+        }
+        Ok(())
     }
-    if text.is_empty() {
-        text.push('-')?;
-    }
-    Ok(text)
 }
 
-fn tell(rt: &HostRuntime, stop: u32, waits: &[bool; 8], number: usize) -> io::Result<()> {
-    let letters = choice(waits, number);
-    let (solid, read) = survived(stop, &letters);
-    let listed = listing::listing(rt.alloc(), solid.boundary())?;
-    let counts = listed.as_str().lines().next().unwrap_or("");
-    let text = shown(rt.alloc(), waits, &letters)?;
+fn tell(rt: &HostRuntime, stop: u32, choice: Choice) -> io::Result<()> {
+    let (solid, read) = survived(stop, &choice.letters());
+    let counts = listing::counted(solid.boundary());
     match read {
         Ok(extent) => {
             let batches = extent.batches;
-            println!(rt; "cut {stop} {text}: {batches} batches, {counts}")
+            println!(rt; "cut {stop} {choice}: {batches} batches, {counts}")
         }
         Err(fault) => {
             let refused = fault.number();
-            println!(rt; "cut {stop} {text}: {refused}")
+            println!(rt; "cut {stop} {choice}: {refused}")
         }
     }
 }
@@ -154,8 +163,8 @@ fn tell(rt: &HostRuntime, stop: u32, waits: &[bool; 8], number: usize) -> io::Re
 fn main(rt: HostRuntime) -> io::Result<()> {
     for stop in 0..=DISK_CALLS {
         let waits = waiting(stop);
-        for number in 0..choices(&waits) {
-            tell(&rt, stop, &waits, number)?;
+        for number in 0..waits.choices() {
+            tell(&rt, stop, waits.choice(number))?;
         }
     }
     Ok(())
