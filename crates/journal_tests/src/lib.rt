@@ -4,7 +4,7 @@
 #[cfg(test)]
 mod tests {
     use boundary::{Edit, Point};
-    use disk::{Cell, Content, Disk, Layer, Lent, Settling};
+    use disk::{Cell, Content, Fault, Layer, Lent, Settling};
     use faults::JournalFault;
     use journal::{Draft, Extent};
     use records::Record;
@@ -60,10 +60,7 @@ mod tests {
             let _ = draft.push(edit);
             edit = MOVE;
         }
-        match read {
-            Ok(extent) => journal::append(&mut disk, extent, &draft),
-            Err(fault) => Err(fault),
-        }
+        journal::append(&mut disk, read?, &draft)
     }
 
     fn stands(

@@ -12,36 +12,26 @@ ghost use Rattle.rules.specs.RingLaws.{RingLaws};
 ghost use Rattle.rules.specs.Rules.{Sound};
 
 // Every list of edits leaves a sound boundary, whose handles are those that the list made.
-pub fn lists_stay_sound() -> u8
+pub fn lists_stay_sound()
     ensures { (es : List Edit) → StaysSound es }
-{
-    0
-}
+{}
 
 // What each operator does to the rings of a sound boundary, and which operator undoes which.
-pub fn rings_change_as_stated() -> u8
+pub fn rings_change_as_stated()
     ensures { (b : Boundary) → Sound b → RingLaws b }
-{
-    0
-}
+{}
 
 // Every half-edge of a sound boundary has one before it, and walks round loops and vertices come back.
-pub fn walks_come_back() -> u8
+pub fn walks_come_back()
     ensures { (b : Boundary) → Sound b → Consequences b }
-{
-    0
-}
+{}
 
 // What small solids come to, computed from the definitions.
-pub fn worked_cases() -> u8
+pub fn worked_cases()
     ensures { Worked }
-{
-    0
-}
+{}
 
 // For each rule there is a table that breaks it.
-pub fn rules_can_be_broken() -> u8
+pub fn rules_can_be_broken()
     ensures { Broken }
-{
-    0
-}
+{}
