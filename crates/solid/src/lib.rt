@@ -7,8 +7,8 @@ ghost use Rattle.boundary.specs.Refusals.{refusal, after, answer};
 ghost use Rattle.rules.specs.Histories.{after_all, handles_made};
 ghost use Rattle.rules.specs.Rules.{Sound};
 
-use boundary::{Boundary, Edit, Refusal};
-use ranges::{in_range, named};
+use boundary::{Boundary, Edit, Refusal, named};
+use ranges::in_range;
 
 mod operators;
 mod ranges;

@@ -1,62 +1,96 @@
 // The operators. Each decides its refusal from numbers that are in range, and then makes its change.
 ghost use Rattle.std.specs.Prelude.{◌≡◌, ◌<◌, is_some, Some};
 ghost use Rattle.std.specs.Option.{unwrap_or};
-ghost use Rattle.boundary.specs.Changes.{put_lone, emptied, led};
+ghost use Rattle.std.specs.List.{position};
+ghost use Rattle.boundary.specs.Changes.{put_lone, emptied, led, joined, inner, merged};
 ghost use Rattle.boundary.specs.Operators.{half_edge, mvfs, kvfs, face_in, mev, mev_before, mev_lone, kev, mef, past, spliced, kef, kemr, led_place, onward, mekr, connected, kfmrh, move};
 ghost use Rattle.boundary.specs.Refusals.{mvfs_refusal, kvfs_refusal, mev_refusal, kev_refusal, mef_refusal, kef_refusal, kemr_refusal, mekr_refusal, kfmrh_refusal, move_refusal, place_used, has_vertex, are_joinable};
-ghost use Rattle.boundary.specs.Tables.{row, lone, outer_of, loop_face, face_shell, place_loop, place_vertex};
+ghost use Rattle.boundary.specs.Tables.{row, lone, outer_of, loop_face, face_shell, place_loop, place_vertex, faces_in, loops_in, in_row, in_shell};
 ghost use Rattle.solid.specs.Steps.{Decided};
 
 use crate::Solid;
-use crate::rows::{Lead, Shift, change_all, clear, first_part, mate, own_run, parts, put, used};
-use boundary::{Edge, Face, HalfEdge, Loop, Point, Refusal, Shell, half, row};
+use crate::rows::{change_all, change_halves, mate, own_run, replaced, set, used};
+use boundary::{Edge, FACES, Face, HalfEdge, Loop, Point, Refusal, Shell, half, row};
 
 impl Solid {
     // The lone vertex of a loop.
     fn lone(&self, l: u16) -> Option<u16>
         ensures { result ≡ lone self.now.boundary l }
     {
-        match row(&self.boundary.loops, l) {
-            None => None,
-            Some(found) => found.lone,
-        }
+        row(&self.boundary.loops, l).and_then(|found| found.lone)
     }
 
     // The face that a loop lies in.
     fn loop_face(&self, l: u16) -> u16
         ensures { result ≡ loop_face self.now.boundary l }
     {
-        match row(&self.boundary.loops, l) {
-            None => 0,
-            Some(found) => found.face,
-        }
+        row(&self.boundary.loops, l).map_or(0, |found| found.face)
     }
 
     // The shell that a face lies in.
     fn face_shell(&self, f: u16) -> u16
         ensures { result ≡ face_shell self.now.boundary f }
     {
-        match row(&self.boundary.faces, f) {
-            None => 0,
-            Some(found) => found.shell,
-        }
+        row(&self.boundary.faces, f).map_or(0, |found| found.shell)
     }
 
     // The outer loop of a face.
     fn outer_of(&self, f: u16) -> u16
         ensures { result ≡ outer_of (row self.now.boundary.faces f) }
     {
-        match row(&self.boundary.faces, f) {
-            None => 0,
-            Some(found) => found.outer,
-        }
+        row(&self.boundary.faces, f).map_or(0, |found| found.outer)
     }
 
     // What led to `past` leads to `on`.
     fn lead(&mut self, past: u16, on: u16)
         ensures { self.new.boundary ≡ led self.old.boundary past on }
     {
-        change_all(&mut self.boundary.edges, &Lead { past, on });
+        change_halves(
+            &mut self.boundary.edges,
+            |half| HalfEdge {
+                next: replaced(half.next, past, on),
+                ..half
+            },
+        );
+    }
+
+    // What lay on the loop `from` lies on the loop `to`.
+    fn join(&mut self, from: u16, to: u16)
+        ensures { self.new.boundary ≡ joined self.old.boundary from to }
+    {
+        change_halves(
+            &mut self.boundary.edges,
+            |half| HalfEdge {
+                owner: replaced(half.owner, from, to),
+                ..half
+            },
+        );
+    }
+
+    // The loops in the face `from` lie in the face `to`.
+    fn take_in(&mut self, from: u16, to: u16)
+        ensures { self.new.boundary ≡ inner self.old.boundary from to }
+    {
+        change_all(
+            &mut self.boundary.loops,
+            |row| Loop {
+                face: replaced(row.face, from, to),
+                ..row
+            },
+        );
+    }
+
+    // The faces in the shell `from` lie in the shell `to`.
+    fn merge(&mut self, from: u16, to: u16)
+        ensures { self.new.boundary ≡ merged self.old.boundary from to }
+    {
+        change_all(
+            &mut self.boundary.faces,
+            |face| Face {
+                shell: replaced(face.shell, from, to),
+                ..face
+            },
+        );
     }
 
     // What a place names is used.
@@ -75,7 +109,7 @@ impl Solid {
         ensures { self.new.boundary ≡ put_lone self.old.boundary l lone }
     {
         let face = self.loop_face(l);
-        put(&mut self.boundary.loops, l, Loop { face, lone });
+        set(&mut self.boundary.loops, l, Some(Loop { face, lone }));
     }
 
     // Where the ring of the loop `l` was emptied, the vertex `v` is lone on it.
@@ -104,25 +138,37 @@ impl Solid {
         {
             return Err(Refusal::Taken);
         }
-        put(&mut self.boundary.shells, shell, Shell);
-        put(&mut self.boundary.faces, face, Face { shell, outer });
-        put(
-            &mut self.boundary.loops,
-            outer,
-            Loop {
-                face,
-                lone: Some(vertex),
-            },
-        );
-        put(&mut self.boundary.vertices, vertex, at);
+        set(&mut self.boundary.shells, shell, Some(Shell));
+        set(&mut self.boundary.faces, face, Some(Face { shell, outer }));
+        let lone = Some(vertex);
+        set(&mut self.boundary.loops, outer, Some(Loop { face, lone }));
+        set(&mut self.boundary.vertices, vertex, Some(at));
         Ok(())
     }
 
-    // The first face of a shell.
+    // The first face of a shell, or the end of the table where it has none.
     fn face_in(&self, shell: u16) -> u16
         ensures { result ≡ face_in self.now.boundary shell }
     {
-        first_part(&self.boundary.faces, shell) as u16
+        first_face(&self.boundary.faces, shell).unwrap_or(FACES) as u16
+    }
+
+    // How many faces a shell has.
+    fn faces_in(&self, shell: u16) -> usize
+        ensures { result ≡ faces_in self.now.boundary shell }
+    {
+        let rows = self.boundary.faces.iter();
+        rows.filter(|row| row.is_some_and(|face| face.shell == shell))
+            .count()
+    }
+
+    // How many loops a face has.
+    fn loops_in(&self, face: u16) -> usize
+        ensures { result ≡ loops_in self.now.boundary face }
+    {
+        let rows = self.boundary.loops.iter();
+        rows.filter(|row| row.is_some_and(|own| own.face == face))
+            .count()
     }
 
     pub(crate) fn kvfs(&mut self, shell: u16) -> Result<(), Refusal>
@@ -132,17 +178,17 @@ impl Solid {
             return Err(Refusal::Unused);
         }
         let face = self.face_in(shell);
-        if parts(&self.boundary.faces, shell) != 1 || parts(&self.boundary.loops, face) != 1 {
+        if self.faces_in(shell) != 1 || self.loops_in(face) != 1 {
             return Err(Refusal::Condition);
         }
         let outer = self.outer_of(face);
         let Some(vertex) = self.lone(outer) else {
             return Err(Refusal::Condition);
         };
-        clear(&mut self.boundary.shells, shell);
-        clear(&mut self.boundary.faces, face);
-        clear(&mut self.boundary.loops, outer);
-        clear(&mut self.boundary.vertices, vertex);
+        set(&mut self.boundary.shells, shell, None);
+        set(&mut self.boundary.faces, face, None);
+        set(&mut self.boundary.loops, outer, None);
+        set(&mut self.boundary.vertices, vertex, None);
         Ok(())
     }
 
@@ -159,8 +205,8 @@ impl Solid {
         self.lead(h, 2 * k);
         let even = half_edge(start, 2 * k + 1, owner);
         let odd = half_edge(v, h, owner);
-        put(&mut self.boundary.edges, k, Edge { even, odd });
-        put(&mut self.boundary.vertices, v, p);
+        set(&mut self.boundary.edges, k, Some(Edge { even, odd }));
+        set(&mut self.boundary.vertices, v, Some(p));
     }
 
     // 2k and 2k + 1 become the ring of the loop `l`, whose vertex `start` was lone.
@@ -171,8 +217,8 @@ impl Solid {
         self.put_lone(l, None);
         let even = half_edge(start, 2 * k + 1, l);
         let odd = half_edge(v, 2 * k, l);
-        put(&mut self.boundary.edges, k, Edge { even, odd });
-        put(&mut self.boundary.vertices, v, p);
+        set(&mut self.boundary.edges, k, Some(Edge { even, odd }));
+        set(&mut self.boundary.vertices, v, Some(p));
     }
 
     pub(crate) fn mev(
@@ -215,33 +261,30 @@ impl Solid {
         }
         self.lead(h, back.next);
         self.leave_lone(back.next == h, there.owner, there.start);
-        clear(&mut self.boundary.edges, h / 2);
-        clear(&mut self.boundary.vertices, back.start);
+        set(&mut self.boundary.edges, h / 2, None);
+        set(&mut self.boundary.vertices, back.start, None);
         Ok(())
     }
 
-    // The run from `from` to just before `to`, closed by 2k + 1, is the outer loop `l` of the face `f`; the rest, closed by 2k, stays.
-    fn mef_between(&mut self, from: u16, to: u16, k: u16, f: u16, l: u16)
+    // The run from `from` to just before `to`, closed by 2k + 1, is the outer loop `outer` of `face`; the rest, closed by 2k, stays.
+    fn mef_between(&mut self, from: u16, to: u16, k: u16, face: u16, outer: u16)
         requires { k < 192 }
-        ensures { self.new.boundary ≡ mef self.old.boundary from to k f l }
+        ensures { self.new.boundary ≡ mef self.old.boundary from to k face outer }
     {
         let first = half(&self.boundary.edges, from);
         let second = half(&self.boundary.edges, to);
         let shell = self.face_shell(self.loop_face(first.owner));
-        own_run(&mut self.boundary.edges, from, to, l);
+        own_run(&mut self.boundary.edges, from, to, outer);
         self.lead(from, 2 * k);
         self.lead(to, 2 * k + 1);
         let even = half_edge(first.start, to, first.owner);
-        let odd = half_edge(second.start, from, l);
-        put(&mut self.boundary.edges, k, Edge { even, odd });
-        put(&mut self.boundary.faces, f, Face { shell, outer: l });
-        put(
+        let odd = half_edge(second.start, from, outer);
+        set(&mut self.boundary.edges, k, Some(Edge { even, odd }));
+        set(&mut self.boundary.faces, face, Some(Face { shell, outer }));
+        set(
             &mut self.boundary.loops,
-            l,
-            Loop {
-                face: f,
-                lone: None,
-            },
+            outer,
+            Some(Loop { face, lone: None }),
         );
     }
 
@@ -290,13 +333,7 @@ impl Solid {
         } else {
             first.next
         };
-        change_all(
-            &mut self.boundary.edges,
-            &Shift {
-                from: first.owner,
-                to: second.owner,
-            },
-        );
+        self.join(first.owner, second.owner);
         self.lead(x, past_x);
         self.lead(y, past_y);
         self.leave_lone(
@@ -313,9 +350,9 @@ impl Solid {
         let owner = half(&self.boundary.edges, h).owner;
         let face = self.loop_face(owner);
         self.splice(h, mate(h));
-        clear(&mut self.boundary.edges, h / 2);
-        clear(&mut self.boundary.loops, owner);
-        clear(&mut self.boundary.faces, face);
+        set(&mut self.boundary.edges, h / 2, None);
+        set(&mut self.boundary.loops, owner, None);
+        set(&mut self.boundary.faces, face, None);
     }
 
     pub(crate) fn kef(&mut self, h: u16) -> Result<(), Refusal>
@@ -326,7 +363,7 @@ impl Solid {
         }
         let owner = half(&self.boundary.edges, h).owner;
         if owner == half(&self.boundary.edges, mate(h)).owner
-            || parts(&self.boundary.loops, self.loop_face(owner)) != 1
+            || self.loops_in(self.loop_face(owner)) != 1
         {
             return Err(Refusal::Condition);
         }
@@ -341,17 +378,13 @@ impl Solid {
         let there = half(&self.boundary.edges, h);
         let back = half(&self.boundary.edges, mate(h));
         let face = self.loop_face(there.owner);
-        let lone = if there.next == mate(h) {
-            Some(back.start)
-        } else {
-            None
-        };
+        let lone = (there.next == mate(h)).then_some(back.start);
         own_run(&mut self.boundary.edges, there.next, mate(h), l);
         self.lead(mate(h), there.next);
         self.lead(h, back.next);
-        put(&mut self.boundary.loops, l, Loop { face, lone });
+        set(&mut self.boundary.loops, l, Some(Loop { face, lone }));
         self.leave_lone(back.next == h, there.owner, there.start);
-        clear(&mut self.boundary.edges, h / 2);
+        set(&mut self.boundary.edges, h / 2, None);
     }
 
     pub(crate) fn kemr(&mut self, h: u16, inner: u16) -> Result<(), Refusal>
@@ -408,20 +441,14 @@ impl Solid {
     {
         let outer = self.place_loop(a);
         let inner = self.place_loop(c);
-        change_all(
-            &mut self.boundary.edges,
-            &Shift {
-                from: inner,
-                to: outer,
-            },
-        );
+        self.join(inner, outer);
         self.lead_place(a, 2 * k);
         self.lead_place(c, 2 * k + 1);
         let even = half_edge(v, onward(c, 2 * k + 1), outer);
         let odd = half_edge(w, onward(a, 2 * k), outer);
-        put(&mut self.boundary.edges, k, Edge { even, odd });
+        set(&mut self.boundary.edges, k, Some(Edge { even, odd }));
         self.put_lone(outer, None);
-        clear(&mut self.boundary.loops, inner);
+        set(&mut self.boundary.loops, inner, None);
     }
 
     // Two loops of one face, the second not its outer one.
@@ -462,8 +489,8 @@ impl Solid {
         if s == t {
             self.boundary.handles = self.boundary.handles.saturating_add(1);
         } else {
-            change_all(&mut self.boundary.faces, &Shift { from: t, to: s });
-            clear(&mut self.boundary.shells, t);
+            self.merge(t, s);
+            set(&mut self.boundary.shells, t, None);
         }
     }
 
@@ -473,19 +500,13 @@ impl Solid {
         if !used(&self.boundary.faces, kept) || !used(&self.boundary.faces, killed) {
             return Err(Refusal::Unused);
         }
-        if kept == killed || parts(&self.boundary.loops, killed) != 1 {
+        if kept == killed || self.loops_in(killed) != 1 {
             return Err(Refusal::Condition);
         }
         let s = self.face_shell(kept);
         let t = self.face_shell(killed);
-        change_all(
-            &mut self.boundary.loops,
-            &Shift {
-                from: killed,
-                to: kept,
-            },
-        );
-        clear(&mut self.boundary.faces, killed);
+        self.take_in(killed, kept);
+        set(&mut self.boundary.faces, killed, None);
         self.connect(s, t);
         Ok(())
     }
@@ -509,6 +530,14 @@ impl Solid {
         self.move_to(vertex, at);
         Ok(())
     }
+}
+
+fn first_face(faces: &[Option<Face>], shell: u16) -> Option<usize>
+    ensures { result ≡ position (in_row in_shell shell) faces.now }
+{
+    faces
+        .iter()
+        .position(|row| row.is_some_and(|face| face.shell == shell))
 }
 
 fn half_edge(start: u16, next: u16, owner: u16) -> HalfEdge

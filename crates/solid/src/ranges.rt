@@ -1,39 +1,33 @@
-// Whether the numbers of an edit are in their ranges, and which they are.
+// Whether the numbers of an edit are in their ranges.
 ghost use Rattle.std.specs.Prelude.{◌≡◌};
-ghost use Rattle.boundary.specs.declared.Edit.TheVariants.{Mvfs};
-ghost use Rattle.boundary.specs.Operators.{named};
 ghost use Rattle.boundary.specs.Refusals.{below, is_coordinate, is_point, is_place, in_range};
 
-use boundary::{Edit, Point};
+use boundary::{EDGES, Edit, FACES, LOOPS, Point, SHELLS, VERTICES};
 
-fn below(field: i32, count: u16) -> bool
+const HALVES: usize = 2 * EDGES;
+
+fn below(field: i32, count: usize) -> bool
     ensures { result ≡ below count field }
 {
-    0 <= field && field < i32::from(count)
+    usize::try_from(field).is_ok_and(|k| k < count)
 }
 
 fn is_place(field: i32) -> bool
     ensures { result ≡ is_place field }
 {
-    (0 <= field && field < 384) || (512 <= field && field < 608)
+    (0..384).contains(&field) || (512..608).contains(&field)
 }
 
 fn is_coordinate(x: i32) -> bool
     ensures { result ≡ is_coordinate x }
 {
-    -8_388_608 <= x && x <= 8_388_607
+    (-8_388_608..=8_388_607).contains(&x)
 }
 
 fn is_point(at: Point) -> bool
     ensures { result ≡ is_point at }
 {
     is_coordinate(at.x) && is_coordinate(at.y) && is_coordinate(at.z)
-}
-
-fn mvfs_in_range(shell: i32, face: i32, outer: i32, vertex: i32, at: Point) -> bool
-    ensures { result ≡ in_range (Mvfs shell face outer vertex at) }
-{
-    below(shell, 8) && below(face, 96) && below(outer, 96) && below(vertex, 128) && is_point(at)
 }
 
 pub(crate) fn in_range(edit: Edit) -> bool
@@ -46,15 +40,21 @@ pub(crate) fn in_range(edit: Edit) -> bool
             outer,
             vertex,
             at,
-        } => mvfs_in_range(shell, face, outer, vertex, at),
-        Edit::Kvfs { shell } => below(shell, 8),
+        } => {
+            below(shell, SHELLS)
+                && below(face, FACES)
+                && below(outer, LOOPS)
+                && below(vertex, VERTICES)
+                && is_point(at)
+        }
+        Edit::Kvfs { shell } => below(shell, SHELLS),
         Edit::Mev {
             place,
             edge,
             vertex,
             at,
-        } => { is_place(place) && below(edge, 192) && below(vertex, 128) && is_point(at) }
-        Edit::Kev { half } => below(half, 384),
+        } => is_place(place) && below(edge, EDGES) && below(vertex, VERTICES) && is_point(at),
+        Edit::Kev { half } => below(half, HALVES),
         Edit::Mef {
             from,
             to,
@@ -62,27 +62,16 @@ pub(crate) fn in_range(edit: Edit) -> bool
             face,
             outer,
         } => {
-            below(from, 384)
-                && below(to, 384)
-                && below(edge, 192)
-                && below(face, 96)
-                && below(outer, 96)
+            below(from, HALVES)
+                && below(to, HALVES)
+                && below(edge, EDGES)
+                && below(face, FACES)
+                && below(outer, LOOPS)
         }
-        Edit::Kef { half } => below(half, 384),
-        Edit::Kemr { half, inner } => below(half, 384) && below(inner, 96),
-        Edit::Mekr { to, inner, edge } => is_place(to) && is_place(inner) && below(edge, 192),
-        Edit::Kfmrh { kept, killed } => below(kept, 96) && below(killed, 96),
-        Edit::Move { vertex, at } => below(vertex, 128) && is_point(at),
-    }
-}
-
-// The number that a field names.
-pub(crate) fn named(field: i32) -> u16
-    ensures { result ≡ named field }
-{
-    if 0 <= field && field < 65536 {
-        field as u16
-    } else {
-        0
+        Edit::Kef { half } => below(half, HALVES),
+        Edit::Kemr { half, inner } => below(half, HALVES) && below(inner, LOOPS),
+        Edit::Mekr { to, inner, edge } => is_place(to) && is_place(inner) && below(edge, EDGES),
+        Edit::Kfmrh { kept, killed } => below(kept, FACES) && below(killed, FACES),
+        Edit::Move { vertex, at } => below(vertex, VERTICES) && is_point(at),
     }
 }
