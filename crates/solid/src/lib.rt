@@ -8,7 +8,7 @@ ghost use Rattle.rules.specs.Histories.{after_all, handles_made};
 ghost use Rattle.rules.specs.Rules.{Sound};
 
 use boundary::{Boundary, Edit, Refusal, named};
-use ranges::in_range;
+use ranges::{EdgeNumber, in_range};
 
 mod operators;
 mod ranges;
@@ -73,7 +73,7 @@ impl Solid {
                 edge,
                 vertex,
                 at,
-            } => self.mev(named(place), named(edge), named(vertex), at),
+            } => self.mev(named(place), EdgeNumber::named(edge), named(vertex), at),
             Edit::Kev { half } => self.kev(named(half)),
             Edit::Mef {
                 from,
@@ -85,14 +85,18 @@ impl Solid {
                 self.mef(
                     named(from),
                     named(to),
-                    named(edge),
+                    EdgeNumber::named(edge),
                     named(face),
                     named(outer),
                 )
             }
             Edit::Kef { half } => self.kef(named(half)),
             Edit::Kemr { half, inner } => self.kemr(named(half), named(inner)),
-            Edit::Mekr { to, inner, edge } => self.mekr(named(to), named(inner), named(edge)),
+            Edit::Mekr { to, inner, edge } => self.mekr(
+                named(to),
+                named(inner),
+                EdgeNumber::named(edge),
+            ),
             Edit::Kfmrh { kept, killed } => self.kfmrh(named(kept), named(killed)),
             Edit::Move { vertex, at } => self.move_vertex(named(vertex), at),
         }

@@ -1,5 +1,5 @@
 // The operators. Each decides its refusal from numbers that are in range, and then makes its change.
-ghost use Rattle.std.specs.Prelude.{◌≡◌, ◌<◌, is_some, Some};
+ghost use Rattle.std.specs.Prelude.{◌≡◌, is_some, Some};
 ghost use Rattle.std.specs.Option.{unwrap_or};
 ghost use Rattle.std.specs.List.{position};
 ghost use Rattle.boundary.specs.Changes.{put_lone, emptied, led, joined, inner, merged};
@@ -9,6 +9,7 @@ ghost use Rattle.boundary.specs.Tables.{row, lone, outer_of, loop_face, face_she
 ghost use Rattle.solid.specs.Steps.{Decided};
 
 use crate::Solid;
+use crate::ranges::EdgeNumber;
 use crate::rows::{change_all, change_halves, mate, own_run, replaced, set, used};
 use boundary::{Edge, FACES, Face, HalfEdge, Loop, Point, Refusal, Shell, half, row};
 
@@ -193,48 +194,46 @@ impl Solid {
     }
 
     // 2k and 2k + 1 go just before the half-edge `h`.
-    fn mev_before(&mut self, h: u16, k: u16, v: u16, p: Point)
-        requires { k < 192 }
-        ensures { self.new.boundary ≡ mev_before self.old.boundary h k v p }
+    fn mev_before(&mut self, h: u16, k: EdgeNumber, v: u16, p: Point)
+        ensures { self.new.boundary ≡ mev_before self.old.boundary h k.number v p }
     {
         let HalfEdge {
             start,
             next: _,
             owner,
         } = half(&self.boundary.edges, h);
-        self.lead(h, 2 * k);
-        let even = half_edge(start, 2 * k + 1, owner);
+        self.lead(h, k.even());
+        let even = half_edge(start, k.odd(), owner);
         let odd = half_edge(v, h, owner);
-        set(&mut self.boundary.edges, k, Some(Edge { even, odd }));
+        set(&mut self.boundary.edges, k.number, Some(Edge { even, odd }));
         set(&mut self.boundary.vertices, v, Some(p));
     }
 
     // 2k and 2k + 1 become the ring of the loop `l`, whose vertex `start` was lone.
-    fn mev_lone(&mut self, l: u16, start: u16, k: u16, v: u16, p: Point)
-        requires { (k < 192) × (lone self.old.boundary l ≡ Some start) }
-        ensures { self.new.boundary ≡ mev_lone self.old.boundary l k v p }
+    fn mev_lone(&mut self, l: u16, start: u16, k: EdgeNumber, v: u16, p: Point)
+        requires { lone self.old.boundary l ≡ Some start }
+        ensures { self.new.boundary ≡ mev_lone self.old.boundary l k.number v p }
     {
         self.put_lone(l, None);
-        let even = half_edge(start, 2 * k + 1, l);
-        let odd = half_edge(v, 2 * k, l);
-        set(&mut self.boundary.edges, k, Some(Edge { even, odd }));
+        let even = half_edge(start, k.odd(), l);
+        let odd = half_edge(v, k.even(), l);
+        set(&mut self.boundary.edges, k.number, Some(Edge { even, odd }));
         set(&mut self.boundary.vertices, v, Some(p));
     }
 
     pub(crate) fn mev(
         &mut self,
         place: u16,
-        edge: u16,
+        edge: EdgeNumber,
         vertex: u16,
         at: Point,
     ) -> Result<(), Refusal>
-        requires { edge < 192 }
-        ensures { Decided (mev_refusal self.old.boundary place edge vertex) self.old.boundary (mev self.old.boundary place edge vertex at) result self.new.boundary }
+        ensures { Decided (mev_refusal self.old.boundary place edge.number vertex) self.old.boundary (mev self.old.boundary place edge.number vertex at) result self.new.boundary }
     {
         if !self.place_used(place) {
             return Err(Refusal::Unused);
         }
-        if used(&self.boundary.edges, edge) || used(&self.boundary.vertices, vertex) {
+        if used(&self.boundary.edges, edge.number) || used(&self.boundary.vertices, vertex) {
             return Err(Refusal::Taken);
         }
         if place < 512 {
@@ -267,19 +266,18 @@ impl Solid {
     }
 
     // The run from `from` to just before `to`, closed by 2k + 1, is the outer loop `outer` of `face`; the rest, closed by 2k, stays.
-    fn mef_between(&mut self, from: u16, to: u16, k: u16, face: u16, outer: u16)
-        requires { k < 192 }
-        ensures { self.new.boundary ≡ mef self.old.boundary from to k face outer }
+    fn mef_between(&mut self, from: u16, to: u16, k: EdgeNumber, face: u16, outer: u16)
+        ensures { self.new.boundary ≡ mef self.old.boundary from to k.number face outer }
     {
         let first = half(&self.boundary.edges, from);
         let second = half(&self.boundary.edges, to);
         let shell = self.face_shell(self.loop_face(first.owner));
         own_run(&mut self.boundary.edges, from, to, outer);
-        self.lead(from, 2 * k);
-        self.lead(to, 2 * k + 1);
+        self.lead(from, k.even());
+        self.lead(to, k.odd());
         let even = half_edge(first.start, to, first.owner);
         let odd = half_edge(second.start, from, outer);
-        set(&mut self.boundary.edges, k, Some(Edge { even, odd }));
+        set(&mut self.boundary.edges, k.number, Some(Edge { even, odd }));
         set(&mut self.boundary.faces, face, Some(Face { shell, outer }));
         set(
             &mut self.boundary.loops,
@@ -292,17 +290,16 @@ impl Solid {
         &mut self,
         from: u16,
         to: u16,
-        edge: u16,
+        edge: EdgeNumber,
         face: u16,
         outer: u16,
     ) -> Result<(), Refusal>
-        requires { edge < 192 }
-        ensures { Decided (mef_refusal self.old.boundary from to edge face outer) self.old.boundary (mef self.old.boundary from to edge face outer) result self.new.boundary }
+        ensures { Decided (mef_refusal self.old.boundary from to edge.number face outer) self.old.boundary (mef self.old.boundary from to edge.number face outer) result self.new.boundary }
     {
         if !used(&self.boundary.edges, from / 2) || !used(&self.boundary.edges, to / 2) {
             return Err(Refusal::Unused);
         }
-        if used(&self.boundary.edges, edge)
+        if used(&self.boundary.edges, edge.number)
             || used(&self.boundary.faces, face)
             || used(&self.boundary.loops, outer)
         {
@@ -435,18 +432,19 @@ impl Solid {
     }
 
     // 2k leads from the vertex `v` of `a` to the vertex `w` of `c`, and the loop of `c` joins that of `a`.
-    fn mekr_between(&mut self, a: u16, c: u16, v: u16, w: u16, k: u16)
-        requires { (k < 192) × ((v ≡ place_vertex self.old.boundary a) × (w ≡ place_vertex self.old.boundary c)) }
-        ensures { self.new.boundary ≡ mekr self.old.boundary a c k }
+    fn mekr_between(&mut self, a: u16, c: u16, v: u16, w: u16, k: EdgeNumber)
+        requires { (v ≡ place_vertex self.old.boundary a) × (w ≡ place_vertex self.old.boundary c) }
+        ensures { self.new.boundary ≡ mekr self.old.boundary a c k.number }
     {
         let outer = self.place_loop(a);
         let inner = self.place_loop(c);
         self.join(inner, outer);
-        self.lead_place(a, 2 * k);
-        self.lead_place(c, 2 * k + 1);
-        let even = half_edge(v, onward(c, 2 * k + 1), outer);
-        let odd = half_edge(w, onward(a, 2 * k), outer);
-        set(&mut self.boundary.edges, k, Some(Edge { even, odd }));
+        let (there, back) = (k.even(), k.odd());
+        self.lead_place(a, there);
+        self.lead_place(c, back);
+        let even = half_edge(v, onward(c, back), outer);
+        let odd = half_edge(w, onward(a, there), outer);
+        set(&mut self.boundary.edges, k.number, Some(Edge { even, odd }));
         self.put_lone(outer, None);
         set(&mut self.boundary.loops, inner, None);
     }
@@ -459,14 +457,13 @@ impl Solid {
         l != i && self.loop_face(l) == face && self.outer_of(face) != i
     }
 
-    pub(crate) fn mekr(&mut self, to: u16, inner: u16, edge: u16) -> Result<(), Refusal>
-        requires { edge < 192 }
-        ensures { Decided (mekr_refusal self.old.boundary to inner edge) self.old.boundary (mekr self.old.boundary to inner edge) result self.new.boundary }
+    pub(crate) fn mekr(&mut self, to: u16, inner: u16, edge: EdgeNumber) -> Result<(), Refusal>
+        ensures { Decided (mekr_refusal self.old.boundary to inner edge.number) self.old.boundary (mekr self.old.boundary to inner edge.number) result self.new.boundary }
     {
         if !self.place_used(to) || !self.place_used(inner) {
             return Err(Refusal::Unused);
         }
-        if used(&self.boundary.edges, edge) {
+        if used(&self.boundary.edges, edge.number) {
             return Err(Refusal::Taken);
         }
         let Some(v) = self.place_vertex(to) else {
@@ -512,22 +509,14 @@ impl Solid {
     }
 
     // One vertex row is lent and changed; all other rows stay.
-    fn move_to(&mut self, vertex: u16, at: Point)
-        requires { vertex < 128 }
-        ensures { self.new.boundary ≡ move self.old.boundary vertex at }
-    {
-        let lent = &mut self.boundary.vertices[vertex as usize];
-        *lent = Some(at);
-    }
-
     pub(crate) fn move_vertex(&mut self, vertex: u16, at: Point) -> Result<(), Refusal>
-        requires { vertex < 128 }
         ensures { Decided (move_refusal self.old.boundary vertex) self.old.boundary (move self.old.boundary vertex at) result self.new.boundary }
     {
         if !used(&self.boundary.vertices, vertex) {
             return Err(Refusal::Unused);
         }
-        self.move_to(vertex, at);
+        let lent = &mut self.boundary.vertices[vertex as usize];
+        *lent = Some(at);
         Ok(())
     }
 }

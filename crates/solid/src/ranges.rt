@@ -1,10 +1,42 @@
-// Whether the numbers of an edit are in their ranges.
-ghost use Rattle.std.specs.Prelude.{◌≡◌};
-ghost use Rattle.boundary.specs.Refusals.{below, is_coordinate, is_point, is_place, in_range};
+// Whether the numbers of an edit are in their ranges, and the number of an edge that is.
+ghost use Rattle.std.specs.Prelude.{◌≡◌, ◌+◌, ◌*◌, ◌<◌, IsTrue};
+ghost use Rattle.boundary.specs.Operators.{named};
+ghost use Rattle.boundary.specs.Refusals.{below, is_edge, is_coordinate, is_point, is_place, in_range};
 
-use boundary::{EDGES, Edit, FACES, LOOPS, Point, SHELLS, VERTICES};
+use boundary::{EDGES, Edit, FACES, LOOPS, Point, SHELLS, VERTICES, named};
 
 const HALVES: usize = 2 * EDGES;
+
+// The number of an edge, small enough that its half-edges have numbers too.
+#[derive(Clone, Copy)]
+pub(crate) struct EdgeNumber {
+    pub(crate) number: u16,
+    ghost in_range: { number < 192 },
+}
+
+impl EdgeNumber {
+    // The edge that a field in range names.
+    pub(crate) fn named(field: i32) -> EdgeNumber
+        requires { IsTrue (is_edge field) }
+        ensures { result.number ≡ named field }
+    {
+        EdgeNumber {
+            number: named(field),
+        }
+    }
+
+    pub(crate) fn even(self) -> u16
+        ensures { result ≡ 2 * self.number }
+    {
+        2 * self.number
+    }
+
+    pub(crate) fn odd(self) -> u16
+        ensures { result ≡ 2 * self.number + 1 }
+    {
+        2 * self.number + 1
+    }
+}
 
 fn below(field: i32, count: usize) -> bool
     ensures { result ≡ below count field }
