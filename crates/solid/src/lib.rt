@@ -46,8 +46,7 @@ impl Solid {
     pub fn boundary(&self) -> &Boundary
         ensures { result.now ≡ self.now.boundary }
     {
-        let rows = &self.boundary;
-        rows
+        &self.boundary
     }
 
     // Carries an edit out, or refuses it and leaves the solid as it was.

@@ -1,11 +1,11 @@
 // Whether the numbers of an edit are in their ranges, and the number of an edge that is.
-ghost use Rattle.std.specs.Prelude.{◌≡◌, ◌+◌, ◌*◌, ◌<◌, IsTrue};
+ghost use Rattle.std.specs.Prelude.{◌≡◌, ◌+◌, ◌*◌, ◌<◌, ◌&&◌, IsTrue};
 ghost use Rattle.boundary.specs.Operators.{named};
-ghost use Rattle.boundary.specs.Refusals.{below, is_edge, is_coordinate, is_point, is_place, in_range};
+ghost use Rattle.boundary.specs.Refusals.{below, is_face, is_loop, is_edge, is_vertex, is_coordinate, is_point, is_place, in_range};
 
 use boundary::{EDGES, Edit, FACES, LOOPS, Point, SHELLS, VERTICES, named};
 
-const HALVES: usize = 2 * EDGES;
+pub(crate) const HALVES: usize = 2 * EDGES;
 
 // The number of an edge, small enough that its half-edges have numbers too.
 #[derive(Clone, Copy)]
@@ -62,6 +62,20 @@ fn is_point(at: Point) -> bool
     is_coordinate(at.x) && is_coordinate(at.y) && is_coordinate(at.z)
 }
 
+// A face with its outer loop.
+fn is_face(face: i32, outer: i32) -> bool
+    ensures { result ≡ (is_face face && is_loop outer) }
+{
+    below(face, FACES) && below(outer, LOOPS)
+}
+
+// A vertex with the point that it is at.
+fn is_vertex(vertex: i32, at: Point) -> bool
+    ensures { result ≡ (is_vertex vertex && is_point at) }
+{
+    below(vertex, VERTICES) && is_point(at)
+}
+
 pub(crate) fn in_range(edit: Edit) -> bool
     ensures { result ≡ in_range edit }
 {
@@ -72,20 +86,14 @@ pub(crate) fn in_range(edit: Edit) -> bool
             outer,
             vertex,
             at,
-        } => {
-            below(shell, SHELLS)
-                && below(face, FACES)
-                && below(outer, LOOPS)
-                && below(vertex, VERTICES)
-                && is_point(at)
-        }
+        } => below(shell, SHELLS) && is_face(face, outer) && is_vertex(vertex, at),
         Edit::Kvfs { shell } => below(shell, SHELLS),
         Edit::Mev {
             place,
             edge,
             vertex,
             at,
-        } => is_place(place) && below(edge, EDGES) && below(vertex, VERTICES) && is_point(at),
+        } => is_place(place) && below(edge, EDGES) && is_vertex(vertex, at),
         Edit::Kev { half } => below(half, HALVES),
         Edit::Mef {
             from,
@@ -94,16 +102,12 @@ pub(crate) fn in_range(edit: Edit) -> bool
             face,
             outer,
         } => {
-            below(from, HALVES)
-                && below(to, HALVES)
-                && below(edge, EDGES)
-                && below(face, FACES)
-                && below(outer, LOOPS)
+            below(from, HALVES) && below(to, HALVES) && below(edge, EDGES) && is_face(face, outer)
         }
         Edit::Kef { half } => below(half, HALVES),
         Edit::Kemr { half, inner } => below(half, HALVES) && below(inner, LOOPS),
         Edit::Mekr { to, inner, edge } => is_place(to) && is_place(inner) && below(edge, EDGES),
         Edit::Kfmrh { kept, killed } => below(kept, FACES) && below(killed, FACES),
-        Edit::Move { vertex, at } => below(vertex, VERTICES) && is_point(at),
+        Edit::Move { vertex, at } => is_vertex(vertex, at),
     }
 }
