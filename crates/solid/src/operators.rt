@@ -5,7 +5,7 @@ ghost use Rattle.std.specs.List.{position};
 ghost use Rattle.boundary.specs.Changes.{put_lone, emptied, led, joined, inner, merged};
 ghost use Rattle.boundary.specs.Operators.{half_edge, mvfs, kvfs, face_in, mev, mev_before, mev_lone, kev, mef, past, spliced, kef, kemr, led_place, onward, mekr, connected, kfmrh, move};
 ghost use Rattle.boundary.specs.Refusals.{mvfs_refusal, kvfs_refusal, mev_refusal, kev_refusal, mef_refusal, kef_refusal, kemr_refusal, mekr_refusal, kfmrh_refusal, move_refusal, place_used, has_vertex, are_joinable};
-ghost use Rattle.boundary.specs.Tables.{row, lone, outer_of, loop_face, face_shell, place_loop, place_vertex, faces_in, loops_in, in_row, in_shell};
+ghost use Rattle.boundary.specs.Tables.{row, half, half_used, lone, outer_of, loop_face, face_shell, place_loop, place_vertex, faces_in, loops_in, in_row, in_shell};
 ghost use Rattle.solid.specs.Steps.{Decided};
 
 use crate::Solid;
@@ -14,6 +14,18 @@ use crate::rows::{change_all, change_halves, mate, own_run, replaced, set, used}
 use boundary::{Edge, FACES, Face, HalfEdge, Loop, Point, Refusal, Shell, half, row};
 
 impl Solid {
+    fn half(&self, h: u16) -> HalfEdge
+        ensures { result ≡ half self.now.boundary h }
+    {
+        half(&self.boundary.edges, h)
+    }
+
+    fn half_used(&self, h: u16) -> bool
+        ensures { result ≡ half_used self.now.boundary h }
+    {
+        used(&self.boundary.edges, h / 2)
+    }
+
     // The lone vertex of a loop.
     fn lone(&self, l: u16) -> Option<u16>
         ensures { result ≡ lone self.now.boundary l }
@@ -99,7 +111,7 @@ impl Solid {
         ensures { result ≡ place_used self.now.boundary place }
     {
         if place < 512 {
-            used(&self.boundary.edges, place / 2)
+            self.half_used(place)
         } else {
             used(&self.boundary.loops, place - 512)
         }
@@ -183,9 +195,7 @@ impl Solid {
             return Err(Refusal::Condition);
         }
         let outer = self.outer_of(face);
-        let Some(vertex) = self.lone(outer) else {
-            return Err(Refusal::Condition);
-        };
+        let vertex = self.lone(outer).ok_or(Refusal::Condition)?;
         set(&mut self.boundary.shells, shell, None);
         set(&mut self.boundary.faces, face, None);
         set(&mut self.boundary.loops, outer, None);
@@ -197,11 +207,7 @@ impl Solid {
     fn mev_before(&mut self, h: u16, k: EdgeNumber, v: u16, p: Point)
         ensures { self.new.boundary ≡ mev_before self.old.boundary h k.number v p }
     {
-        let HalfEdge {
-            start,
-            next: _,
-            owner,
-        } = half(&self.boundary.edges, h);
+        let HalfEdge { start, owner, .. } = self.half(h);
         self.lead(h, k.even());
         let even = half_edge(start, k.odd(), owner);
         let odd = half_edge(v, h, owner);
@@ -240,9 +246,7 @@ impl Solid {
             self.mev_before(place, edge, vertex, at);
             return Ok(());
         }
-        let Some(start) = self.lone(place - 512) else {
-            return Err(Refusal::Condition);
-        };
+        let start = self.lone(place - 512).ok_or(Refusal::Condition)?;
         self.mev_lone(place - 512, start, edge, vertex, at);
         Ok(())
     }
@@ -250,11 +254,11 @@ impl Solid {
     pub(crate) fn kev(&mut self, h: u16) -> Result<(), Refusal>
         ensures { Decided (kev_refusal self.old.boundary h) self.old.boundary (kev self.old.boundary h) result self.new.boundary }
     {
-        if !used(&self.boundary.edges, h / 2) {
+        if !self.half_used(h) {
             return Err(Refusal::Unused);
         }
-        let there = half(&self.boundary.edges, h);
-        let back = half(&self.boundary.edges, mate(h));
+        let there = self.half(h);
+        let back = self.half(mate(h));
         if there.next != mate(h) {
             return Err(Refusal::Condition);
         }
@@ -269,8 +273,8 @@ impl Solid {
     fn mef_between(&mut self, from: u16, to: u16, k: EdgeNumber, face: u16, outer: u16)
         ensures { self.new.boundary ≡ mef self.old.boundary from to k.number face outer }
     {
-        let first = half(&self.boundary.edges, from);
-        let second = half(&self.boundary.edges, to);
+        let first = self.half(from);
+        let second = self.half(to);
         let shell = self.face_shell(self.loop_face(first.owner));
         own_run(&mut self.boundary.edges, from, to, outer);
         self.lead(from, k.even());
@@ -296,7 +300,7 @@ impl Solid {
     ) -> Result<(), Refusal>
         ensures { Decided (mef_refusal self.old.boundary from to edge.number face outer) self.old.boundary (mef self.old.boundary from to edge.number face outer) result self.new.boundary }
     {
-        if !used(&self.boundary.edges, from / 2) || !used(&self.boundary.edges, to / 2) {
+        if !self.half_used(from) || !self.half_used(to) {
             return Err(Refusal::Unused);
         }
         if used(&self.boundary.edges, edge.number)
@@ -305,9 +309,7 @@ impl Solid {
         {
             return Err(Refusal::Taken);
         }
-        if from == to
-            || half(&self.boundary.edges, from).owner != half(&self.boundary.edges, to).owner
-        {
+        if from == to || self.half(from).owner != self.half(to).owner {
             return Err(Refusal::Condition);
         }
         self.mef_between(from, to, edge, face, outer);
@@ -318,8 +320,8 @@ impl Solid {
     fn splice(&mut self, x: u16, y: u16)
         ensures { self.new.boundary ≡ spliced self.old.boundary x y }
     {
-        let first = half(&self.boundary.edges, x);
-        let second = half(&self.boundary.edges, y);
+        let first = self.half(x);
+        let second = self.half(y);
         let past_x = if second.next == y {
             first.next
         } else {
@@ -344,7 +346,7 @@ impl Solid {
     fn kef_away(&mut self, h: u16)
         ensures { self.new.boundary ≡ kef self.old.boundary h }
     {
-        let owner = half(&self.boundary.edges, h).owner;
+        let owner = self.half(h).owner;
         let face = self.loop_face(owner);
         self.splice(h, mate(h));
         set(&mut self.boundary.edges, h / 2, None);
@@ -355,13 +357,11 @@ impl Solid {
     pub(crate) fn kef(&mut self, h: u16) -> Result<(), Refusal>
         ensures { Decided (kef_refusal self.old.boundary h) self.old.boundary (kef self.old.boundary h) result self.new.boundary }
     {
-        if !used(&self.boundary.edges, h / 2) {
+        if !self.half_used(h) {
             return Err(Refusal::Unused);
         }
-        let owner = half(&self.boundary.edges, h).owner;
-        if owner == half(&self.boundary.edges, mate(h)).owner
-            || self.loops_in(self.loop_face(owner)) != 1
-        {
+        let owner = self.half(h).owner;
+        if owner == self.half(mate(h)).owner || self.loops_in(self.loop_face(owner)) != 1 {
             return Err(Refusal::Condition);
         }
         self.kef_away(h);
@@ -372,8 +372,8 @@ impl Solid {
     fn kemr_away(&mut self, h: u16, l: u16)
         ensures { self.new.boundary ≡ kemr self.old.boundary h l }
     {
-        let there = half(&self.boundary.edges, h);
-        let back = half(&self.boundary.edges, mate(h));
+        let there = self.half(h);
+        let back = self.half(mate(h));
         let face = self.loop_face(there.owner);
         let lone = (there.next == mate(h)).then_some(back.start);
         own_run(&mut self.boundary.edges, there.next, mate(h), l);
@@ -387,13 +387,13 @@ impl Solid {
     pub(crate) fn kemr(&mut self, h: u16, inner: u16) -> Result<(), Refusal>
         ensures { Decided (kemr_refusal self.old.boundary h inner) self.old.boundary (kemr self.old.boundary h inner) result self.new.boundary }
     {
-        if !used(&self.boundary.edges, h / 2) {
+        if !self.half_used(h) {
             return Err(Refusal::Unused);
         }
         if used(&self.boundary.loops, inner) {
             return Err(Refusal::Taken);
         }
-        if half(&self.boundary.edges, h).owner != half(&self.boundary.edges, mate(h)).owner {
+        if self.half(h).owner != self.half(mate(h)).owner {
             return Err(Refusal::Condition);
         }
         self.kemr_away(h, inner);
@@ -405,7 +405,7 @@ impl Solid {
         ensures { result ≡ place_loop self.now.boundary place }
     {
         if place < 512 {
-            half(&self.boundary.edges, place).owner
+            self.half(place).owner
         } else {
             place - 512
         }
@@ -416,7 +416,7 @@ impl Solid {
         ensures is { unwrap_or result 0 ≡ place_vertex self.now.boundary place }
     {
         if place < 512 {
-            Some(half(&self.boundary.edges, place).start)
+            Some(self.half(place).start)
         } else {
             self.lone(place - 512)
         }
@@ -466,12 +466,8 @@ impl Solid {
         if used(&self.boundary.edges, edge.number) {
             return Err(Refusal::Taken);
         }
-        let Some(v) = self.place_vertex(to) else {
-            return Err(Refusal::Condition);
-        };
-        let Some(w) = self.place_vertex(inner) else {
-            return Err(Refusal::Condition);
-        };
+        let v = self.place_vertex(to).ok_or(Refusal::Condition)?;
+        let w = self.place_vertex(inner).ok_or(Refusal::Condition)?;
         if !self.are_joinable(self.place_loop(to), self.place_loop(inner)) {
             return Err(Refusal::Condition);
         }
