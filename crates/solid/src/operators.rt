@@ -9,7 +9,7 @@ ghost use Rattle.boundary.specs.Tables.{row, half, half_used, lone, outer_of, lo
 ghost use Rattle.solid.specs.Steps.{Decided};
 
 use crate::Solid;
-use crate::ranges::EdgeNumber;
+use crate::ranges::{EdgeNumber, LOOP_PLACES};
 use crate::rows::{change_all, change_halves, mate, own_run, replaced, set, used};
 use boundary::{Edge, FACES, Face, HalfEdge, Loop, Point, Refusal, Shell, half, row};
 
@@ -110,10 +110,10 @@ impl Solid {
     fn place_used(&self, place: u16) -> bool
         ensures { result ≡ place_used self.now.boundary place }
     {
-        if place < 512 {
+        if place < LOOP_PLACES {
             self.half_used(place)
         } else {
-            used(&self.boundary.loops, place - 512)
+            used(&self.boundary.loops, place - LOOP_PLACES)
         }
     }
 
@@ -242,12 +242,12 @@ impl Solid {
         if used(&self.boundary.edges, edge.number) || used(&self.boundary.vertices, vertex) {
             return Err(Refusal::Taken);
         }
-        if place < 512 {
+        if place < LOOP_PLACES {
             self.mev_before(place, edge, vertex, at);
             return Ok(());
         }
-        let start = self.lone(place - 512).ok_or(Refusal::Condition)?;
-        self.mev_lone(place - 512, start, edge, vertex, at);
+        let start = self.lone(place - LOOP_PLACES).ok_or(Refusal::Condition)?;
+        self.mev_lone(place - LOOP_PLACES, start, edge, vertex, at);
         Ok(())
     }
 
@@ -404,10 +404,10 @@ impl Solid {
     fn place_loop(&self, place: u16) -> u16
         ensures { result ≡ place_loop self.now.boundary place }
     {
-        if place < 512 {
+        if place < LOOP_PLACES {
             self.half(place).owner
         } else {
-            place - 512
+            place - LOOP_PLACES
         }
     }
 
@@ -415,10 +415,10 @@ impl Solid {
         ensures has { is_some result ≡ has_vertex self.now.boundary place }
         ensures is { unwrap_or result 0 ≡ place_vertex self.now.boundary place }
     {
-        if place < 512 {
+        if place < LOOP_PLACES {
             Some(self.half(place).start)
         } else {
-            self.lone(place - 512)
+            self.lone(place - LOOP_PLACES)
         }
     }
 
@@ -426,7 +426,7 @@ impl Solid {
     fn lead_place(&mut self, place: u16, x: u16)
         ensures { self.new.boundary ≡ led_place self.old.boundary place x }
     {
-        if place < 512 {
+        if place < LOOP_PLACES {
             self.lead(place, x);
         }
     }
@@ -517,6 +517,7 @@ impl Solid {
     }
 }
 
+// Where the first face of a shell stands.
 fn first_face(faces: &[Option<Face>], shell: u16) -> Option<usize>
     ensures { result ≡ position (in_row in_shell shell) faces.now }
 {
@@ -535,5 +536,5 @@ fn half_edge(start: u16, next: u16, owner: u16) -> HalfEdge
 fn onward(place: u16, x: u16) -> u16
     ensures { result ≡ onward place x }
 {
-    if place < 512 { place } else { x }
+    if place < LOOP_PLACES { place } else { x }
 }

@@ -7,6 +7,9 @@ use boundary::{EDGES, Edit, FACES, LOOPS, Point, SHELLS, VERTICES, named};
 
 pub(crate) const HALVES: usize = 2 * EDGES;
 
+// A place from here on is the loop that far below it, and one before it is a half-edge.
+pub(crate) const LOOP_PLACES: u16 = 512;
+
 // The number of an edge, small enough that its half-edges have numbers too.
 #[derive(Clone, Copy)]
 pub(crate) struct EdgeNumber {
@@ -47,7 +50,7 @@ fn below(field: i32, count: usize) -> bool
 fn is_place(field: i32) -> bool
     ensures { result ≡ is_place field }
 {
-    (0..384).contains(&field) || (512..608).contains(&field)
+    below(field, HALVES) || (512..608).contains(&field)
 }
 
 fn is_coordinate(x: i32) -> bool

@@ -66,26 +66,15 @@ pub(crate) fn replaced(x: u16, from: u16, to: u16) -> u16
 }
 
 // One half of an edge lies on the loop `l`.
-fn owned_side(edge: Edge, even: bool, l: u16) -> Edge
+fn owned_side(mut edge: Edge, even: bool, l: u16) -> Edge
     ensures { result ≡ owned_side even l edge }
 {
     if even {
-        Edge {
-            even: HalfEdge {
-                owner: l,
-                ..edge.even
-            },
-            ..edge
-        }
+        edge.even.owner = l;
     } else {
-        Edge {
-            odd: HalfEdge {
-                owner: l,
-                ..edge.odd
-            },
-            ..edge
-        }
+        edge.odd.owner = l;
     }
+    edge
 }
 
 // The half-edge `h` lies on the loop `l`.
