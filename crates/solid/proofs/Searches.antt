@@ -1,5 +1,5 @@
 -- The first row that lies in k is the one that the library's `position` finds.
-use Rattle.std.proofs.Common.{◌≡◌, ℕ, ◌≤◌, cond, List, length, Option, refl, ap, arith}
+use Rattle.std.proofs.Common.{◌≡◌, ℕ, cond, List, length, Option, refl, ap, arith}
 use Rattle.std.specs.List.{position, position_or_len}
 use Rattle.std.specs.Option.{unwrap_or}
 use Rattle.std.proofs.lemmas.List.Recursion.{is_position_or_len}
@@ -13,6 +13,3 @@ module _ {X : Type 0} (w : X → ℕ) (k : ℕ) where
 
   pub first_found : (t : List (Option X)) → unwrap_or (position (in_row w k) t) (length t) ≡ first_part w t k
   first_found t = grind (arith, first_place t, prefix_len-le-length)
-
-  pub first_within : (t : List (Option X)) → first_part w t k ≤ length t
-  first_within t = grind (arith, first_place t, prefix_len-le-length)

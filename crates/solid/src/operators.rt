@@ -3,7 +3,7 @@ ghost use Rattle.std.specs.Prelude.{◌≡◌, is_some, Some};
 ghost use Rattle.std.specs.Option.{unwrap_or};
 ghost use Rattle.std.specs.List.{position};
 ghost use Rattle.boundary.specs.Changes.{put_lone, emptied, led, joined, inner, merged};
-ghost use Rattle.boundary.specs.Operators.{half_edge, mvfs, kvfs, face_in, mev, mev_before, mev_lone, kev, mef, past, spliced, kef, kemr, led_place, onward, mekr, connected, kfmrh, move};
+ghost use Rattle.boundary.specs.Operators.{mvfs, kvfs, face_in, mev, mev_before, mev_lone, kev, mef, past, spliced, kef, kemr, led_place, onward, mekr, connected, kfmrh, move};
 ghost use Rattle.boundary.specs.Refusals.{mvfs_refusal, kvfs_refusal, mev_refusal, kev_refusal, mef_refusal, kef_refusal, kemr_refusal, mekr_refusal, kfmrh_refusal, move_refusal, place_used, has_vertex, are_joinable};
 ghost use Rattle.boundary.specs.Tables.{row, half, half_used, lone, outer_of, loop_face, face_shell, place_loop, place_vertex, faces_in, loops_in, in_row, in_shell};
 ghost use Rattle.solid.specs.Steps.{Decided};
@@ -209,8 +209,16 @@ impl Solid {
     {
         let HalfEdge { start, owner, .. } = self.half(h);
         self.lead(h, k.even());
-        let even = half_edge(start, k.odd(), owner);
-        let odd = half_edge(v, h, owner);
+        let even = HalfEdge {
+            start,
+            next: k.odd(),
+            owner,
+        };
+        let odd = HalfEdge {
+            start: v,
+            next: h,
+            owner,
+        };
         set(&mut self.boundary.edges, k.number, Some(Edge { even, odd }));
         set(&mut self.boundary.vertices, v, Some(p));
     }
@@ -221,8 +229,16 @@ impl Solid {
         ensures { self.new.boundary ≡ mev_lone self.old.boundary l k.number v p }
     {
         self.put_lone(l, None);
-        let even = half_edge(start, k.odd(), l);
-        let odd = half_edge(v, k.even(), l);
+        let even = HalfEdge {
+            start,
+            next: k.odd(),
+            owner: l,
+        };
+        let odd = HalfEdge {
+            start: v,
+            next: k.even(),
+            owner: l,
+        };
         set(&mut self.boundary.edges, k.number, Some(Edge { even, odd }));
         set(&mut self.boundary.vertices, v, Some(p));
     }
@@ -279,8 +295,16 @@ impl Solid {
         own_run(&mut self.boundary.edges, from, to, outer);
         self.lead(from, k.even());
         self.lead(to, k.odd());
-        let even = half_edge(first.start, to, first.owner);
-        let odd = half_edge(second.start, from, outer);
+        let even = HalfEdge {
+            start: first.start,
+            next: to,
+            owner: first.owner,
+        };
+        let odd = HalfEdge {
+            start: second.start,
+            next: from,
+            owner: outer,
+        };
         set(&mut self.boundary.edges, k.number, Some(Edge { even, odd }));
         set(&mut self.boundary.faces, face, Some(Face { shell, outer }));
         set(
@@ -439,11 +463,18 @@ impl Solid {
         let outer = self.place_loop(a);
         let inner = self.place_loop(c);
         self.join(inner, outer);
-        let (there, back) = (k.even(), k.odd());
-        self.lead_place(a, there);
-        self.lead_place(c, back);
-        let even = half_edge(v, onward(c, back), outer);
-        let odd = half_edge(w, onward(a, there), outer);
+        self.lead_place(a, k.even());
+        self.lead_place(c, k.odd());
+        let even = HalfEdge {
+            start: v,
+            next: onward(c, k.odd()),
+            owner: outer,
+        };
+        let odd = HalfEdge {
+            start: w,
+            next: onward(a, k.even()),
+            owner: outer,
+        };
         set(&mut self.boundary.edges, k.number, Some(Edge { even, odd }));
         self.put_lone(outer, None);
         set(&mut self.boundary.loops, inner, None);
@@ -524,12 +555,6 @@ fn first_face(faces: &[Option<Face>], shell: u16) -> Option<usize>
     faces
         .iter()
         .position(|row| row.is_some_and(|face| face.shell == shell))
-}
-
-fn half_edge(start: u16, next: u16, owner: u16) -> HalfEdge
-    ensures { result ≡ half_edge start next owner }
-{
-    HalfEdge { start, next, owner }
 }
 
 // The half-edge of a place, or `x` at a lone vertex.
