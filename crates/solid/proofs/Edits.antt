@@ -1,7 +1,5 @@
 -- From an edit to the operator that carries it out: its numbers are in range, and what the operator decides is what is to be decided of the edit.
-use Rattle.std.proofs.Common.{◌≡◌, ℕ, ◌<◌, ◌≤◌, true, false, ℤ, pos, negsuc, Err, Option, Result, sym, ap, ◌∙◌, subst, arith, ltb-true, lt-ltb}
-use borrow.Author.Tests.{clash}
-use Rattle.std.proofs.lemmas.Bool.{and_parts}
+use Rattle.std.proofs.Common.{◌≡◌, ℕ, true, false, ℤ, Err, Option, Result, sym, ap, ◌∙◌, subst}
 use Rattle.boundary.specs.declared.Point.{Point}
 use Rattle.boundary.specs.declared.Boundary.{Boundary}
 use Rattle.boundary.specs.declared.Edit.{Edit}
@@ -9,7 +7,7 @@ use Rattle.boundary.specs.declared.Edit.TheVariants.{Mvfs, Kvfs, Mev, Kev, Mef, 
 use Rattle.boundary.specs.declared.Refusal.{Refusal}
 use Rattle.boundary.specs.declared.Refusal.TheVariants.{OutOfRange}
 use Rattle.boundary.specs.Operators.{named, applied, mvfs, kvfs, mev, kev, mef, kef, kemr, mekr, kfmrh, move}
-use Rattle.boundary.specs.Refusals.{below, is_place, is_vertex, is_edge, is_half, in_range, refusal, refusal_within, mvfs_refusal, kvfs_refusal, mev_refusal, kev_refusal, mef_refusal, kef_refusal, kemr_refusal, mekr_refusal, kfmrh_refusal, move_refusal, after, answer, unless, unchanged}
+use Rattle.boundary.specs.Refusals.{in_range, refusal, refusal_within, mvfs_refusal, kvfs_refusal, mev_refusal, kev_refusal, mef_refusal, kef_refusal, kemr_refusal, mekr_refusal, kfmrh_refusal, move_refusal, after, answer, unless, unchanged}
 use Rattle.rules.specs.Rules.{Sound}
 use Rattle.rules.proofs.Histories.{after_keeps}
 use Rattle.solid.specs.Steps.{Decided}
@@ -36,10 +34,6 @@ decided b e o new r b' h eo en d =
     done b e r b' (d.reply ∙ ap answer (eo ∙ ap (λ t. unless t OutOfRange (refusal_within b e)) h))
     (d.leaves ∙ (λ i. unchanged (eo i) b (en i)) ∙ ap (λ t. unchanged (unless t OutOfRange (refusal_within b e)) b (applied b e)) h)
 
-named_below : (n : ℕ) (z : ℤ) (k : ℕ) → n ≤ 65536 → below n z ≡ true → k ≡ named z → k < n
-named_below n (pos m) k small h e = let lt = ltb-true m n h in rw (e, lt-ltb m 65536 (omega arith)) lt
-named_below n (negsuc m) k small h e = absurd (clash h)
-
 -- an edit in range, each number as the code narrows it, and what its operator decided
 module _ (e : Edit) (h : true ≡ in_range e) where
   module _ (a f l v : ℤ) (p : Point) (is : e ≡ Mvfs a f l v p) (a' f' l' v' : ℕ) (ea : a' ≡ named a) (ef : f' ≡ named f) (el : l' ≡ named l) (ev : v' ≡ named v) where
@@ -59,12 +53,6 @@ module _ (e : Edit) (h : true ≡ in_range e) where
         ((λ i. kvfs b (ea i)) ∙ ap (applied b) (sym is)) d
 
   module _ (a k v : ℤ) (p : Point) (is : e ≡ Mev a k v p) (a' k' v' : ℕ) (ea : a' ≡ named a) (ek : k' ≡ named k) (ev : v' ≡ named v) where
-    pub mev_fits : k' < 192
-    mev_fits =
-        let x = and_parts (is_place a) _ (sym (h ∙ ap in_range is)) in
-        let y = and_parts (is_edge k) _ x.1 in
-        named_below 192 k k' (omega arith) y.0 ek
-
     pub mev_done : (b : Boundary) (r : Result (Unit {0}) Refusal) (b' : Boundary) → Decided (mev_refusal b a' k' v') b (mev b a' k' v' p) r b' → Done b e r b'
     unfolding refusal_within applied
     mev_done b r b' d =
@@ -81,13 +69,6 @@ module _ (e : Edit) (h : true ≡ in_range e) where
         ((λ i. kev b (ej i)) ∙ ap (applied b) (sym is)) d
 
   module _ (x y k f l : ℤ) (is : e ≡ Mef x y k f l) (x' y' k' f' l' : ℕ) (ex : x' ≡ named x) (ey : y' ≡ named y) (ek : k' ≡ named k) (ef : f' ≡ named f) (el : l' ≡ named l) where
-    pub mef_fits : k' < 192
-    mef_fits =
-        let u = and_parts (is_half x) _ (sym (h ∙ ap in_range is)) in
-        let v = and_parts (is_half y) _ u.1 in
-        let w = and_parts (is_edge k) _ v.1 in
-        named_below 192 k k' (omega arith) w.0 ek
-
     pub mef_done : (b : Boundary) (r : Result (Unit {0}) Refusal) (b' : Boundary) → Decided (mef_refusal b x' y' k' f' l') b (mef b x' y' k' f' l') r b' → Done b e r b'
     unfolding refusal_within applied
     mef_done b r b' d =
@@ -112,12 +93,6 @@ module _ (e : Edit) (h : true ≡ in_range e) where
         ((λ i. kemr b (ej i) (el i)) ∙ ap (applied b) (sym is)) d
 
   module _ (a c k : ℤ) (is : e ≡ Mekr a c k) (a' c' k' : ℕ) (ea : a' ≡ named a) (ec : c' ≡ named c) (ek : k' ≡ named k) where
-    pub mekr_fits : k' < 192
-    mekr_fits =
-        let x = and_parts (is_place a) _ (sym (h ∙ ap in_range is)) in
-        let y = and_parts (is_place c) _ x.1 in
-        named_below 192 k k' (omega arith) y.1 ek
-
     pub mekr_done : (b : Boundary) (r : Result (Unit {0}) Refusal) (b' : Boundary) → Decided (mekr_refusal b a' c' k') b (mekr b a' c' k') r b' → Done b e r b'
     unfolding refusal_within applied
     mekr_done b r b' d =
@@ -134,11 +109,6 @@ module _ (e : Edit) (h : true ≡ in_range e) where
         ((λ i. kfmrh b (ef i) (eg i)) ∙ ap (applied b) (sym is)) d
 
   module _ (v : ℤ) (p : Point) (is : e ≡ Move v p) (v' : ℕ) (ev : v' ≡ named v) where
-    pub move_fits : v' < 128
-    move_fits =
-        let x = and_parts (is_vertex v) _ (sym (h ∙ ap in_range is)) in
-        named_below 128 v v' (omega arith) x.0 ev
-
     pub move_done : (b : Boundary) (r : Result (Unit {0}) Refusal) (b' : Boundary) → Decided (move_refusal b v') b (move b v' p) r b' → Done b e r b'
     unfolding refusal_within applied
     move_done b r b' d =

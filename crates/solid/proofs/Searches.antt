@@ -1,21 +1,15 @@
--- A loop that looks for the first row that lies in k: what it has passed and the search from there on give the whole search.
-use Rattle.std.proofs.Common.{◌≡◌, ℕ, suc, ◌+◌, ◌<◌, ◌≤◌, true, false, cond, List, length, get_or, drop, Option, sym, ap, ◌∙◌, arith}
-use Rattle.std.proofs.lemmas.List.{at_drop_more, at_drop_all}
+-- The first row that lies in k is the one that the library's `position` finds.
+use Rattle.std.proofs.Common.{◌≡◌, ℕ, cond, List, length, Option, refl, ap, arith}
+use Rattle.std.specs.List.{position, position_or_len}
+use Rattle.std.specs.Option.{unwrap_or}
+use Rattle.std.proofs.lemmas.List.Recursion.{is_position_or_len}
+use Rattle.std.proofs.lemmas.List.Sums.{prefix_len-le-length}
 use Rattle.boundary.specs.Tables.{in_row, first_part}
 
-module _ {X : Type 0} (w : X → ℕ) (t : List (Option X)) (k : ℕ) where
-  pub search_goes : (i : ℕ) (x : Option X) → i + first_part w (drop i t) k ≡ first_part w t k → i < length t → x ≡ get_or t i x → in_row w k x ≡ false → i + 1 + first_part w (drop (i + 1) t) k ≡ first_part w t k
+module _ {X : Type 0} (w : X → ℕ) (k : ℕ) where
+  first_place : (t : List (Option X)) → first_part w t k ≡ position_or_len (in_row w k) t
   unfolding first_part
-  search_goes i x inv lt is no_part =
-      let step : first_part w (drop i t) k ≡ suc (first_part w (drop (i + 1) t) k) = at_drop_more (λ l. first_part w l k) t i x lt ∙ ap (λ b. cond b 0 (suc (first_part w (drop (i + 1) t) k))) (ap (in_row w k) (sym is) ∙ no_part) in
-      omega (arith, inv, step)
+  first_place = is_position_or_len (λ t. first_part w t k) (in_row w k) refl (λ r t. ap (cond (in_row w k r) 0) (omega arith))
 
-  pub search_finds : (i : ℕ) (x : Option X) → i + first_part w (drop i t) k ≡ first_part w t k → i < length t → x ≡ get_or t i x → in_row w k x ≡ true → i ≡ first_part w t k
-  unfolding first_part
-  search_finds i x inv lt is a-part =
-      let step : first_part w (drop i t) k ≡ 0 = at_drop_more (λ l. first_part w l k) t i x lt ∙ ap (λ b. cond b 0 (suc (first_part w (drop (i + 1) t) k))) (ap (in_row w k) (sym is) ∙ a-part) in
-      omega (arith, inv, step)
-
-  pub search_ends : (i : ℕ) → i + first_part w (drop i t) k ≡ first_part w t k → i ≤ length t → length t ≤ i → length t ≡ first_part w t k
-  unfolding first_part
-  search_ends i inv le past = let step : first_part w (drop i t) k ≡ 0 = at_drop_all (λ l. first_part w l k) t i past in omega (arith, inv, step)
+  pub first_found : (t : List (Option X)) → unwrap_or (position (in_row w k) t) (length t) ≡ first_part w t k
+  first_found t = grind (arith, first_place t, prefix_len-le-length)

@@ -7,8 +7,8 @@ ghost use Rattle.boundary.specs.Refusals.{refusal, after, answer};
 ghost use Rattle.rules.specs.Histories.{after_all, handles_made};
 ghost use Rattle.rules.specs.Rules.{Sound};
 
-use boundary::{Boundary, Edit, Refusal};
-use ranges::{in_range, named};
+use boundary::{Boundary, Edit, Refusal, named};
+use ranges::{EdgeNumber, in_range};
 
 mod operators;
 mod ranges;
@@ -46,8 +46,7 @@ impl Solid {
     pub fn boundary(&self) -> &Boundary
         ensures { result.now ≡ self.now.boundary }
     {
-        let rows = &self.boundary;
-        rows
+        &self.boundary
     }
 
     // Carries an edit out, or refuses it and leaves the solid as it was.
@@ -73,7 +72,7 @@ impl Solid {
                 edge,
                 vertex,
                 at,
-            } => self.mev(named(place), named(edge), named(vertex), at),
+            } => self.mev(named(place), EdgeNumber::named(edge), named(vertex), at),
             Edit::Kev { half } => self.kev(named(half)),
             Edit::Mef {
                 from,
@@ -85,14 +84,18 @@ impl Solid {
                 self.mef(
                     named(from),
                     named(to),
-                    named(edge),
+                    EdgeNumber::named(edge),
                     named(face),
                     named(outer),
                 )
             }
             Edit::Kef { half } => self.kef(named(half)),
             Edit::Kemr { half, inner } => self.kemr(named(half), named(inner)),
-            Edit::Mekr { to, inner, edge } => self.mekr(named(to), named(inner), named(edge)),
+            Edit::Mekr { to, inner, edge } => self.mekr(
+                named(to),
+                named(inner),
+                EdgeNumber::named(edge),
+            ),
             Edit::Kfmrh { kept, killed } => self.kfmrh(named(kept), named(killed)),
             Edit::Move { vertex, at } => self.move_vertex(named(vertex), at),
         }

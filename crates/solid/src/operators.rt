@@ -1,72 +1,119 @@
 // The operators. Each decides its refusal from numbers that are in range, and then makes its change.
-ghost use Rattle.std.specs.Prelude.{◌≡◌, ◌<◌, is_some, Some};
+ghost use Rattle.std.specs.Prelude.{◌≡◌, is_some, Some};
 ghost use Rattle.std.specs.Option.{unwrap_or};
-ghost use Rattle.boundary.specs.Changes.{put_lone, emptied, led};
-ghost use Rattle.boundary.specs.Operators.{half_edge, mvfs, kvfs, face_in, mev, mev_before, mev_lone, kev, mef, past, spliced, kef, kemr, led_place, onward, mekr, connected, kfmrh, move};
+ghost use Rattle.std.specs.List.{position};
+ghost use Rattle.boundary.specs.Changes.{put_lone, emptied, led, joined, inner, merged};
+ghost use Rattle.boundary.specs.Operators.{mvfs, kvfs, face_in, mev, mev_before, mev_lone, kev, mef, past, spliced, kef, kemr, led_place, onward, mekr, connected, kfmrh, move};
 ghost use Rattle.boundary.specs.Refusals.{mvfs_refusal, kvfs_refusal, mev_refusal, kev_refusal, mef_refusal, kef_refusal, kemr_refusal, mekr_refusal, kfmrh_refusal, move_refusal, place_used, has_vertex, are_joinable};
-ghost use Rattle.boundary.specs.Tables.{row, lone, outer_of, loop_face, face_shell, place_loop, place_vertex};
+ghost use Rattle.boundary.specs.Tables.{row, half, half_used, lone, outer_of, loop_face, face_shell, place_loop, place_vertex, faces_in, loops_in, in_row, in_shell};
 ghost use Rattle.solid.specs.Steps.{Decided};
 
 use crate::Solid;
-use crate::rows::{Lead, Shift, change_all, clear, first_part, mate, own_run, parts, put, used};
-use boundary::{Edge, Face, HalfEdge, Loop, Point, Refusal, Shell, half, row};
+use crate::ranges::{EdgeNumber, LOOP_PLACES};
+use crate::rows::{change_all, change_halves, mate, own_run, replaced, set, used};
+use boundary::{Edge, FACES, Face, HalfEdge, Loop, Point, Refusal, Shell, half, row};
 
 impl Solid {
+    fn half(&self, h: u16) -> HalfEdge
+        ensures { result ≡ half self.now.boundary h }
+    {
+        half(&self.boundary.edges, h)
+    }
+
+    fn half_used(&self, h: u16) -> bool
+        ensures { result ≡ half_used self.now.boundary h }
+    {
+        used(&self.boundary.edges, h / 2)
+    }
+
     // The lone vertex of a loop.
     fn lone(&self, l: u16) -> Option<u16>
         ensures { result ≡ lone self.now.boundary l }
     {
-        match row(&self.boundary.loops, l) {
-            None => None,
-            Some(found) => found.lone,
-        }
+        row(&self.boundary.loops, l).and_then(|found| found.lone)
     }
 
     // The face that a loop lies in.
     fn loop_face(&self, l: u16) -> u16
         ensures { result ≡ loop_face self.now.boundary l }
     {
-        match row(&self.boundary.loops, l) {
-            None => 0,
-            Some(found) => found.face,
-        }
+        row(&self.boundary.loops, l).map_or(0, |found| found.face)
     }
 
     // The shell that a face lies in.
     fn face_shell(&self, f: u16) -> u16
         ensures { result ≡ face_shell self.now.boundary f }
     {
-        match row(&self.boundary.faces, f) {
-            None => 0,
-            Some(found) => found.shell,
-        }
+        row(&self.boundary.faces, f).map_or(0, |found| found.shell)
     }
 
     // The outer loop of a face.
     fn outer_of(&self, f: u16) -> u16
         ensures { result ≡ outer_of (row self.now.boundary.faces f) }
     {
-        match row(&self.boundary.faces, f) {
-            None => 0,
-            Some(found) => found.outer,
-        }
+        row(&self.boundary.faces, f).map_or(0, |found| found.outer)
     }
 
     // What led to `past` leads to `on`.
     fn lead(&mut self, past: u16, on: u16)
         ensures { self.new.boundary ≡ led self.old.boundary past on }
     {
-        change_all(&mut self.boundary.edges, &Lead { past, on });
+        change_halves(
+            &mut self.boundary.edges,
+            |half| HalfEdge {
+                next: replaced(half.next, past, on),
+                ..half
+            },
+        );
+    }
+
+    // What lay on the loop `from` lies on the loop `to`.
+    fn join(&mut self, from: u16, to: u16)
+        ensures { self.new.boundary ≡ joined self.old.boundary from to }
+    {
+        change_halves(
+            &mut self.boundary.edges,
+            |half| HalfEdge {
+                owner: replaced(half.owner, from, to),
+                ..half
+            },
+        );
+    }
+
+    // The loops in the face `from` lie in the face `to`.
+    fn take_in(&mut self, from: u16, to: u16)
+        ensures { self.new.boundary ≡ inner self.old.boundary from to }
+    {
+        change_all(
+            &mut self.boundary.loops,
+            |row| Loop {
+                face: replaced(row.face, from, to),
+                ..row
+            },
+        );
+    }
+
+    // The faces in the shell `from` lie in the shell `to`.
+    fn merge(&mut self, from: u16, to: u16)
+        ensures { self.new.boundary ≡ merged self.old.boundary from to }
+    {
+        change_all(
+            &mut self.boundary.faces,
+            |face| Face {
+                shell: replaced(face.shell, from, to),
+                ..face
+            },
+        );
     }
 
     // What a place names is used.
     fn place_used(&self, place: u16) -> bool
         ensures { result ≡ place_used self.now.boundary place }
     {
-        if place < 512 {
-            used(&self.boundary.edges, place / 2)
+        if place < LOOP_PLACES {
+            self.half_used(place)
         } else {
-            used(&self.boundary.loops, place - 512)
+            used(&self.boundary.loops, place - LOOP_PLACES)
         }
     }
 
@@ -75,7 +122,7 @@ impl Solid {
         ensures { self.new.boundary ≡ put_lone self.old.boundary l lone }
     {
         let face = self.loop_face(l);
-        put(&mut self.boundary.loops, l, Loop { face, lone });
+        set(&mut self.boundary.loops, l, Some(Loop { face, lone }));
     }
 
     // Where the ring of the loop `l` was emptied, the vertex `v` is lone on it.
@@ -104,25 +151,37 @@ impl Solid {
         {
             return Err(Refusal::Taken);
         }
-        put(&mut self.boundary.shells, shell, Shell);
-        put(&mut self.boundary.faces, face, Face { shell, outer });
-        put(
-            &mut self.boundary.loops,
-            outer,
-            Loop {
-                face,
-                lone: Some(vertex),
-            },
-        );
-        put(&mut self.boundary.vertices, vertex, at);
+        set(&mut self.boundary.shells, shell, Some(Shell));
+        set(&mut self.boundary.faces, face, Some(Face { shell, outer }));
+        let lone = Some(vertex);
+        set(&mut self.boundary.loops, outer, Some(Loop { face, lone }));
+        set(&mut self.boundary.vertices, vertex, Some(at));
         Ok(())
     }
 
-    // The first face of a shell.
+    // The first face of a shell, or the end of the table where it has none.
     fn face_in(&self, shell: u16) -> u16
         ensures { result ≡ face_in self.now.boundary shell }
     {
-        first_part(&self.boundary.faces, shell) as u16
+        first_face(&self.boundary.faces, shell).unwrap_or(FACES) as u16
+    }
+
+    // How many faces a shell has.
+    fn faces_in(&self, shell: u16) -> usize
+        ensures { result ≡ faces_in self.now.boundary shell }
+    {
+        let rows = self.boundary.faces.iter();
+        rows.filter(|row| row.is_some_and(|face| face.shell == shell))
+            .count()
+    }
+
+    // How many loops a face has.
+    fn loops_in(&self, face: u16) -> usize
+        ensures { result ≡ loops_in self.now.boundary face }
+    {
+        let rows = self.boundary.loops.iter();
+        rows.filter(|row| row.is_some_and(|own| own.face == face))
+            .count()
     }
 
     pub(crate) fn kvfs(&mut self, shell: u16) -> Result<(), Refusal>
@@ -132,116 +191,126 @@ impl Solid {
             return Err(Refusal::Unused);
         }
         let face = self.face_in(shell);
-        if parts(&self.boundary.faces, shell) != 1 || parts(&self.boundary.loops, face) != 1 {
+        if self.faces_in(shell) != 1 || self.loops_in(face) != 1 {
             return Err(Refusal::Condition);
         }
         let outer = self.outer_of(face);
-        let Some(vertex) = self.lone(outer) else {
-            return Err(Refusal::Condition);
-        };
-        clear(&mut self.boundary.shells, shell);
-        clear(&mut self.boundary.faces, face);
-        clear(&mut self.boundary.loops, outer);
-        clear(&mut self.boundary.vertices, vertex);
+        let vertex = self.lone(outer).ok_or(Refusal::Condition)?;
+        set(&mut self.boundary.shells, shell, None);
+        set(&mut self.boundary.faces, face, None);
+        set(&mut self.boundary.loops, outer, None);
+        set(&mut self.boundary.vertices, vertex, None);
         Ok(())
     }
 
     // 2k and 2k + 1 go just before the half-edge `h`.
-    fn mev_before(&mut self, h: u16, k: u16, v: u16, p: Point)
-        requires { k < 192 }
-        ensures { self.new.boundary ≡ mev_before self.old.boundary h k v p }
+    fn mev_before(&mut self, h: u16, k: EdgeNumber, v: u16, p: Point)
+        ensures { self.new.boundary ≡ mev_before self.old.boundary h k.number v p }
     {
-        let HalfEdge {
+        let HalfEdge { start, owner, .. } = self.half(h);
+        self.lead(h, k.even());
+        let even = HalfEdge {
             start,
-            next: _,
+            next: k.odd(),
             owner,
-        } = half(&self.boundary.edges, h);
-        self.lead(h, 2 * k);
-        let even = half_edge(start, 2 * k + 1, owner);
-        let odd = half_edge(v, h, owner);
-        put(&mut self.boundary.edges, k, Edge { even, odd });
-        put(&mut self.boundary.vertices, v, p);
+        };
+        let odd = HalfEdge {
+            start: v,
+            next: h,
+            owner,
+        };
+        set(&mut self.boundary.edges, k.number, Some(Edge { even, odd }));
+        set(&mut self.boundary.vertices, v, Some(p));
     }
 
     // 2k and 2k + 1 become the ring of the loop `l`, whose vertex `start` was lone.
-    fn mev_lone(&mut self, l: u16, start: u16, k: u16, v: u16, p: Point)
-        requires { (k < 192) × (lone self.old.boundary l ≡ Some start) }
-        ensures { self.new.boundary ≡ mev_lone self.old.boundary l k v p }
+    fn mev_lone(&mut self, l: u16, start: u16, k: EdgeNumber, v: u16, p: Point)
+        requires { lone self.old.boundary l ≡ Some start }
+        ensures { self.new.boundary ≡ mev_lone self.old.boundary l k.number v p }
     {
         self.put_lone(l, None);
-        let even = half_edge(start, 2 * k + 1, l);
-        let odd = half_edge(v, 2 * k, l);
-        put(&mut self.boundary.edges, k, Edge { even, odd });
-        put(&mut self.boundary.vertices, v, p);
+        let even = HalfEdge {
+            start,
+            next: k.odd(),
+            owner: l,
+        };
+        let odd = HalfEdge {
+            start: v,
+            next: k.even(),
+            owner: l,
+        };
+        set(&mut self.boundary.edges, k.number, Some(Edge { even, odd }));
+        set(&mut self.boundary.vertices, v, Some(p));
     }
 
     pub(crate) fn mev(
         &mut self,
         place: u16,
-        edge: u16,
+        edge: EdgeNumber,
         vertex: u16,
         at: Point,
     ) -> Result<(), Refusal>
-        requires { edge < 192 }
-        ensures { Decided (mev_refusal self.old.boundary place edge vertex) self.old.boundary (mev self.old.boundary place edge vertex at) result self.new.boundary }
+        ensures { Decided (mev_refusal self.old.boundary place edge.number vertex) self.old.boundary (mev self.old.boundary place edge.number vertex at) result self.new.boundary }
     {
         if !self.place_used(place) {
             return Err(Refusal::Unused);
         }
-        if used(&self.boundary.edges, edge) || used(&self.boundary.vertices, vertex) {
+        if used(&self.boundary.edges, edge.number) || used(&self.boundary.vertices, vertex) {
             return Err(Refusal::Taken);
         }
-        if place < 512 {
+        if place < LOOP_PLACES {
             self.mev_before(place, edge, vertex, at);
             return Ok(());
         }
-        let Some(start) = self.lone(place - 512) else {
-            return Err(Refusal::Condition);
-        };
-        self.mev_lone(place - 512, start, edge, vertex, at);
+        let start = self.lone(place - LOOP_PLACES).ok_or(Refusal::Condition)?;
+        self.mev_lone(place - LOOP_PLACES, start, edge, vertex, at);
         Ok(())
     }
 
     pub(crate) fn kev(&mut self, h: u16) -> Result<(), Refusal>
         ensures { Decided (kev_refusal self.old.boundary h) self.old.boundary (kev self.old.boundary h) result self.new.boundary }
     {
-        if !used(&self.boundary.edges, h / 2) {
+        if !self.half_used(h) {
             return Err(Refusal::Unused);
         }
-        let there = half(&self.boundary.edges, h);
-        let back = half(&self.boundary.edges, mate(h));
+        let there = self.half(h);
+        let back = self.half(mate(h));
         if there.next != mate(h) {
             return Err(Refusal::Condition);
         }
         self.lead(h, back.next);
         self.leave_lone(back.next == h, there.owner, there.start);
-        clear(&mut self.boundary.edges, h / 2);
-        clear(&mut self.boundary.vertices, back.start);
+        set(&mut self.boundary.edges, h / 2, None);
+        set(&mut self.boundary.vertices, back.start, None);
         Ok(())
     }
 
-    // The run from `from` to just before `to`, closed by 2k + 1, is the outer loop `l` of the face `f`; the rest, closed by 2k, stays.
-    fn mef_between(&mut self, from: u16, to: u16, k: u16, f: u16, l: u16)
-        requires { k < 192 }
-        ensures { self.new.boundary ≡ mef self.old.boundary from to k f l }
+    // The run from `from` to just before `to`, closed by 2k + 1, is the outer loop `outer` of `face`; the rest, closed by 2k, stays.
+    fn mef_between(&mut self, from: u16, to: u16, k: EdgeNumber, face: u16, outer: u16)
+        ensures { self.new.boundary ≡ mef self.old.boundary from to k.number face outer }
     {
-        let first = half(&self.boundary.edges, from);
-        let second = half(&self.boundary.edges, to);
+        let first = self.half(from);
+        let second = self.half(to);
         let shell = self.face_shell(self.loop_face(first.owner));
-        own_run(&mut self.boundary.edges, from, to, l);
-        self.lead(from, 2 * k);
-        self.lead(to, 2 * k + 1);
-        let even = half_edge(first.start, to, first.owner);
-        let odd = half_edge(second.start, from, l);
-        put(&mut self.boundary.edges, k, Edge { even, odd });
-        put(&mut self.boundary.faces, f, Face { shell, outer: l });
-        put(
+        own_run(&mut self.boundary.edges, from, to, outer);
+        self.lead(from, k.even());
+        self.lead(to, k.odd());
+        let even = HalfEdge {
+            start: first.start,
+            next: to,
+            owner: first.owner,
+        };
+        let odd = HalfEdge {
+            start: second.start,
+            next: from,
+            owner: outer,
+        };
+        set(&mut self.boundary.edges, k.number, Some(Edge { even, odd }));
+        set(&mut self.boundary.faces, face, Some(Face { shell, outer }));
+        set(
             &mut self.boundary.loops,
-            l,
-            Loop {
-                face: f,
-                lone: None,
-            },
+            outer,
+            Some(Loop { face, lone: None }),
         );
     }
 
@@ -249,25 +318,22 @@ impl Solid {
         &mut self,
         from: u16,
         to: u16,
-        edge: u16,
+        edge: EdgeNumber,
         face: u16,
         outer: u16,
     ) -> Result<(), Refusal>
-        requires { edge < 192 }
-        ensures { Decided (mef_refusal self.old.boundary from to edge face outer) self.old.boundary (mef self.old.boundary from to edge face outer) result self.new.boundary }
+        ensures { Decided (mef_refusal self.old.boundary from to edge.number face outer) self.old.boundary (mef self.old.boundary from to edge.number face outer) result self.new.boundary }
     {
-        if !used(&self.boundary.edges, from / 2) || !used(&self.boundary.edges, to / 2) {
+        if !self.half_used(from) || !self.half_used(to) {
             return Err(Refusal::Unused);
         }
-        if used(&self.boundary.edges, edge)
+        if used(&self.boundary.edges, edge.number)
             || used(&self.boundary.faces, face)
             || used(&self.boundary.loops, outer)
         {
             return Err(Refusal::Taken);
         }
-        if from == to
-            || half(&self.boundary.edges, from).owner != half(&self.boundary.edges, to).owner
-        {
+        if from == to || self.half(from).owner != self.half(to).owner {
             return Err(Refusal::Condition);
         }
         self.mef_between(from, to, edge, face, outer);
@@ -278,8 +344,8 @@ impl Solid {
     fn splice(&mut self, x: u16, y: u16)
         ensures { self.new.boundary ≡ spliced self.old.boundary x y }
     {
-        let first = half(&self.boundary.edges, x);
-        let second = half(&self.boundary.edges, y);
+        let first = self.half(x);
+        let second = self.half(y);
         let past_x = if second.next == y {
             first.next
         } else {
@@ -290,13 +356,7 @@ impl Solid {
         } else {
             first.next
         };
-        change_all(
-            &mut self.boundary.edges,
-            &Shift {
-                from: first.owner,
-                to: second.owner,
-            },
-        );
+        self.join(first.owner, second.owner);
         self.lead(x, past_x);
         self.lead(y, past_y);
         self.leave_lone(
@@ -310,24 +370,22 @@ impl Solid {
     fn kef_away(&mut self, h: u16)
         ensures { self.new.boundary ≡ kef self.old.boundary h }
     {
-        let owner = half(&self.boundary.edges, h).owner;
+        let owner = self.half(h).owner;
         let face = self.loop_face(owner);
         self.splice(h, mate(h));
-        clear(&mut self.boundary.edges, h / 2);
-        clear(&mut self.boundary.loops, owner);
-        clear(&mut self.boundary.faces, face);
+        set(&mut self.boundary.edges, h / 2, None);
+        set(&mut self.boundary.loops, owner, None);
+        set(&mut self.boundary.faces, face, None);
     }
 
     pub(crate) fn kef(&mut self, h: u16) -> Result<(), Refusal>
         ensures { Decided (kef_refusal self.old.boundary h) self.old.boundary (kef self.old.boundary h) result self.new.boundary }
     {
-        if !used(&self.boundary.edges, h / 2) {
+        if !self.half_used(h) {
             return Err(Refusal::Unused);
         }
-        let owner = half(&self.boundary.edges, h).owner;
-        if owner == half(&self.boundary.edges, mate(h)).owner
-            || parts(&self.boundary.loops, self.loop_face(owner)) != 1
-        {
+        let owner = self.half(h).owner;
+        if owner == self.half(mate(h)).owner || self.loops_in(self.loop_face(owner)) != 1 {
             return Err(Refusal::Condition);
         }
         self.kef_away(h);
@@ -338,32 +396,28 @@ impl Solid {
     fn kemr_away(&mut self, h: u16, l: u16)
         ensures { self.new.boundary ≡ kemr self.old.boundary h l }
     {
-        let there = half(&self.boundary.edges, h);
-        let back = half(&self.boundary.edges, mate(h));
+        let there = self.half(h);
+        let back = self.half(mate(h));
         let face = self.loop_face(there.owner);
-        let lone = if there.next == mate(h) {
-            Some(back.start)
-        } else {
-            None
-        };
+        let lone = (there.next == mate(h)).then_some(back.start);
         own_run(&mut self.boundary.edges, there.next, mate(h), l);
         self.lead(mate(h), there.next);
         self.lead(h, back.next);
-        put(&mut self.boundary.loops, l, Loop { face, lone });
+        set(&mut self.boundary.loops, l, Some(Loop { face, lone }));
         self.leave_lone(back.next == h, there.owner, there.start);
-        clear(&mut self.boundary.edges, h / 2);
+        set(&mut self.boundary.edges, h / 2, None);
     }
 
     pub(crate) fn kemr(&mut self, h: u16, inner: u16) -> Result<(), Refusal>
         ensures { Decided (kemr_refusal self.old.boundary h inner) self.old.boundary (kemr self.old.boundary h inner) result self.new.boundary }
     {
-        if !used(&self.boundary.edges, h / 2) {
+        if !self.half_used(h) {
             return Err(Refusal::Unused);
         }
         if used(&self.boundary.loops, inner) {
             return Err(Refusal::Taken);
         }
-        if half(&self.boundary.edges, h).owner != half(&self.boundary.edges, mate(h)).owner {
+        if self.half(h).owner != self.half(mate(h)).owner {
             return Err(Refusal::Condition);
         }
         self.kemr_away(h, inner);
@@ -374,10 +428,10 @@ impl Solid {
     fn place_loop(&self, place: u16) -> u16
         ensures { result ≡ place_loop self.now.boundary place }
     {
-        if place < 512 {
-            half(&self.boundary.edges, place).owner
+        if place < LOOP_PLACES {
+            self.half(place).owner
         } else {
-            place - 512
+            place - LOOP_PLACES
         }
     }
 
@@ -385,10 +439,10 @@ impl Solid {
         ensures has { is_some result ≡ has_vertex self.now.boundary place }
         ensures is { unwrap_or result 0 ≡ place_vertex self.now.boundary place }
     {
-        if place < 512 {
-            Some(half(&self.boundary.edges, place).start)
+        if place < LOOP_PLACES {
+            Some(self.half(place).start)
         } else {
-            self.lone(place - 512)
+            self.lone(place - LOOP_PLACES)
         }
     }
 
@@ -396,32 +450,34 @@ impl Solid {
     fn lead_place(&mut self, place: u16, x: u16)
         ensures { self.new.boundary ≡ led_place self.old.boundary place x }
     {
-        if place < 512 {
+        if place < LOOP_PLACES {
             self.lead(place, x);
         }
     }
 
     // 2k leads from the vertex `v` of `a` to the vertex `w` of `c`, and the loop of `c` joins that of `a`.
-    fn mekr_between(&mut self, a: u16, c: u16, v: u16, w: u16, k: u16)
-        requires { (k < 192) × ((v ≡ place_vertex self.old.boundary a) × (w ≡ place_vertex self.old.boundary c)) }
-        ensures { self.new.boundary ≡ mekr self.old.boundary a c k }
+    fn mekr_between(&mut self, a: u16, c: u16, v: u16, w: u16, k: EdgeNumber)
+        requires { (v ≡ place_vertex self.old.boundary a) × (w ≡ place_vertex self.old.boundary c) }
+        ensures { self.new.boundary ≡ mekr self.old.boundary a c k.number }
     {
         let outer = self.place_loop(a);
         let inner = self.place_loop(c);
-        change_all(
-            &mut self.boundary.edges,
-            &Shift {
-                from: inner,
-                to: outer,
-            },
-        );
-        self.lead_place(a, 2 * k);
-        self.lead_place(c, 2 * k + 1);
-        let even = half_edge(v, onward(c, 2 * k + 1), outer);
-        let odd = half_edge(w, onward(a, 2 * k), outer);
-        put(&mut self.boundary.edges, k, Edge { even, odd });
+        self.join(inner, outer);
+        self.lead_place(a, k.even());
+        self.lead_place(c, k.odd());
+        let even = HalfEdge {
+            start: v,
+            next: onward(c, k.odd()),
+            owner: outer,
+        };
+        let odd = HalfEdge {
+            start: w,
+            next: onward(a, k.even()),
+            owner: outer,
+        };
+        set(&mut self.boundary.edges, k.number, Some(Edge { even, odd }));
         self.put_lone(outer, None);
-        clear(&mut self.boundary.loops, inner);
+        set(&mut self.boundary.loops, inner, None);
     }
 
     // Two loops of one face, the second not its outer one.
@@ -432,22 +488,17 @@ impl Solid {
         l != i && self.loop_face(l) == face && self.outer_of(face) != i
     }
 
-    pub(crate) fn mekr(&mut self, to: u16, inner: u16, edge: u16) -> Result<(), Refusal>
-        requires { edge < 192 }
-        ensures { Decided (mekr_refusal self.old.boundary to inner edge) self.old.boundary (mekr self.old.boundary to inner edge) result self.new.boundary }
+    pub(crate) fn mekr(&mut self, to: u16, inner: u16, edge: EdgeNumber) -> Result<(), Refusal>
+        ensures { Decided (mekr_refusal self.old.boundary to inner edge.number) self.old.boundary (mekr self.old.boundary to inner edge.number) result self.new.boundary }
     {
         if !self.place_used(to) || !self.place_used(inner) {
             return Err(Refusal::Unused);
         }
-        if used(&self.boundary.edges, edge) {
+        if used(&self.boundary.edges, edge.number) {
             return Err(Refusal::Taken);
         }
-        let Some(v) = self.place_vertex(to) else {
-            return Err(Refusal::Condition);
-        };
-        let Some(w) = self.place_vertex(inner) else {
-            return Err(Refusal::Condition);
-        };
+        let v = self.place_vertex(to).ok_or(Refusal::Condition)?;
+        let w = self.place_vertex(inner).ok_or(Refusal::Condition)?;
         if !self.are_joinable(self.place_loop(to), self.place_loop(inner)) {
             return Err(Refusal::Condition);
         }
@@ -462,8 +513,8 @@ impl Solid {
         if s == t {
             self.boundary.handles = self.boundary.handles.saturating_add(1);
         } else {
-            change_all(&mut self.boundary.faces, &Shift { from: t, to: s });
-            clear(&mut self.boundary.shells, t);
+            self.merge(t, s);
+            set(&mut self.boundary.shells, t, None);
         }
     }
 
@@ -473,53 +524,42 @@ impl Solid {
         if !used(&self.boundary.faces, kept) || !used(&self.boundary.faces, killed) {
             return Err(Refusal::Unused);
         }
-        if kept == killed || parts(&self.boundary.loops, killed) != 1 {
+        if kept == killed || self.loops_in(killed) != 1 {
             return Err(Refusal::Condition);
         }
         let s = self.face_shell(kept);
         let t = self.face_shell(killed);
-        change_all(
-            &mut self.boundary.loops,
-            &Shift {
-                from: killed,
-                to: kept,
-            },
-        );
-        clear(&mut self.boundary.faces, killed);
+        self.take_in(killed, kept);
+        set(&mut self.boundary.faces, killed, None);
         self.connect(s, t);
         Ok(())
     }
 
     // One vertex row is lent and changed; all other rows stay.
-    fn move_to(&mut self, vertex: u16, at: Point)
-        requires { vertex < 128 }
-        ensures { self.new.boundary ≡ move self.old.boundary vertex at }
-    {
-        let lent = &mut self.boundary.vertices[vertex as usize];
-        *lent = Some(at);
-    }
-
     pub(crate) fn move_vertex(&mut self, vertex: u16, at: Point) -> Result<(), Refusal>
-        requires { vertex < 128 }
         ensures { Decided (move_refusal self.old.boundary vertex) self.old.boundary (move self.old.boundary vertex at) result self.new.boundary }
     {
         if !used(&self.boundary.vertices, vertex) {
             return Err(Refusal::Unused);
         }
-        self.move_to(vertex, at);
+        let lent = &mut self.boundary.vertices[vertex as usize];
+        *lent = Some(at);
         Ok(())
     }
 }
 
-fn half_edge(start: u16, next: u16, owner: u16) -> HalfEdge
-    ensures { result ≡ half_edge start next owner }
+// Where the first face of a shell stands.
+fn first_face(faces: &[Option<Face>], shell: u16) -> Option<usize>
+    ensures { result ≡ position (in_row in_shell shell) faces.now }
 {
-    HalfEdge { start, next, owner }
+    faces
+        .iter()
+        .position(|row| row.is_some_and(|face| face.shell == shell))
 }
 
 // The half-edge of a place, or `x` at a lone vertex.
 fn onward(place: u16, x: u16) -> u16
     ensures { result ≡ onward place x }
 {
-    if place < 512 { place } else { x }
+    if place < LOOP_PLACES { place } else { x }
 }

@@ -1,27 +1,62 @@
-// Whether the numbers of an edit are in their ranges, and which they are.
-ghost use Rattle.std.specs.Prelude.{◌≡◌};
-ghost use Rattle.boundary.specs.declared.Edit.TheVariants.{Mvfs};
+// Whether the numbers of an edit are in their ranges, and the number of an edge that is.
+ghost use Rattle.std.specs.Prelude.{◌≡◌, ◌+◌, ◌*◌, ◌<◌, ◌&&◌, IsTrue};
 ghost use Rattle.boundary.specs.Operators.{named};
-ghost use Rattle.boundary.specs.Refusals.{below, is_coordinate, is_point, is_place, in_range};
+ghost use Rattle.boundary.specs.Refusals.{below, is_face, is_loop, is_edge, is_vertex, is_coordinate, is_point, is_place, in_range};
 
-use boundary::{Edit, Point};
+use boundary::{EDGES, Edit, FACES, LOOPS, Point, SHELLS, VERTICES, named};
 
-fn below(field: i32, count: u16) -> bool
+pub(crate) const HALVES: usize = 2 * EDGES;
+
+// A place from here on is the loop that far below it, and one before it is a half-edge.
+pub(crate) const LOOP_PLACES: u16 = 512;
+
+// The number of an edge, small enough that its half-edges have numbers too.
+#[derive(Clone, Copy)]
+pub(crate) struct EdgeNumber {
+    pub(crate) number: u16,
+    ghost in_range: { number < 192 },
+}
+
+impl EdgeNumber {
+    // The edge that a field in range names.
+    pub(crate) fn named(field: i32) -> EdgeNumber
+        requires { IsTrue (is_edge field) }
+        ensures { result.number ≡ named field }
+    {
+        EdgeNumber {
+            number: named(field),
+        }
+    }
+
+    pub(crate) fn even(self) -> u16
+        ensures { result ≡ 2 * self.number }
+    {
+        2 * self.number
+    }
+
+    pub(crate) fn odd(self) -> u16
+        ensures { result ≡ 2 * self.number + 1 }
+    {
+        2 * self.number + 1
+    }
+}
+
+fn below(field: i32, count: usize) -> bool
     ensures { result ≡ below count field }
 {
-    0 <= field && field < i32::from(count)
+    usize::try_from(field).is_ok_and(|k| k < count)
 }
 
 fn is_place(field: i32) -> bool
     ensures { result ≡ is_place field }
 {
-    (0 <= field && field < 384) || (512 <= field && field < 608)
+    below(field, HALVES) || (512..608).contains(&field)
 }
 
 fn is_coordinate(x: i32) -> bool
     ensures { result ≡ is_coordinate x }
 {
-    -8_388_608 <= x && x <= 8_388_607
+    (-8_388_608..=8_388_607).contains(&x)
 }
 
 fn is_point(at: Point) -> bool
@@ -30,10 +65,18 @@ fn is_point(at: Point) -> bool
     is_coordinate(at.x) && is_coordinate(at.y) && is_coordinate(at.z)
 }
 
-fn mvfs_in_range(shell: i32, face: i32, outer: i32, vertex: i32, at: Point) -> bool
-    ensures { result ≡ in_range (Mvfs shell face outer vertex at) }
+// A face with its outer loop.
+fn is_face(face: i32, outer: i32) -> bool
+    ensures { result ≡ (is_face face && is_loop outer) }
 {
-    below(shell, 8) && below(face, 96) && below(outer, 96) && below(vertex, 128) && is_point(at)
+    below(face, FACES) && below(outer, LOOPS)
+}
+
+// A vertex with the point that it is at.
+fn is_vertex(vertex: i32, at: Point) -> bool
+    ensures { result ≡ (is_vertex vertex && is_point at) }
+{
+    below(vertex, VERTICES) && is_point(at)
 }
 
 pub(crate) fn in_range(edit: Edit) -> bool
@@ -46,15 +89,15 @@ pub(crate) fn in_range(edit: Edit) -> bool
             outer,
             vertex,
             at,
-        } => mvfs_in_range(shell, face, outer, vertex, at),
-        Edit::Kvfs { shell } => below(shell, 8),
+        } => below(shell, SHELLS) && is_face(face, outer) && is_vertex(vertex, at),
+        Edit::Kvfs { shell } => below(shell, SHELLS),
         Edit::Mev {
             place,
             edge,
             vertex,
             at,
-        } => { is_place(place) && below(edge, 192) && below(vertex, 128) && is_point(at) }
-        Edit::Kev { half } => below(half, 384),
+        } => is_place(place) && below(edge, EDGES) && is_vertex(vertex, at),
+        Edit::Kev { half } => below(half, HALVES),
         Edit::Mef {
             from,
             to,
@@ -62,27 +105,12 @@ pub(crate) fn in_range(edit: Edit) -> bool
             face,
             outer,
         } => {
-            below(from, 384)
-                && below(to, 384)
-                && below(edge, 192)
-                && below(face, 96)
-                && below(outer, 96)
+            below(from, HALVES) && below(to, HALVES) && below(edge, EDGES) && is_face(face, outer)
         }
-        Edit::Kef { half } => below(half, 384),
-        Edit::Kemr { half, inner } => below(half, 384) && below(inner, 96),
-        Edit::Mekr { to, inner, edge } => is_place(to) && is_place(inner) && below(edge, 192),
-        Edit::Kfmrh { kept, killed } => below(kept, 96) && below(killed, 96),
-        Edit::Move { vertex, at } => below(vertex, 128) && is_point(at),
-    }
-}
-
-// The number that a field names.
-pub(crate) fn named(field: i32) -> u16
-    ensures { result ≡ named field }
-{
-    if 0 <= field && field < 65536 {
-        field as u16
-    } else {
-        0
+        Edit::Kef { half } => below(half, HALVES),
+        Edit::Kemr { half, inner } => below(half, HALVES) && below(inner, LOOPS),
+        Edit::Mekr { to, inner, edge } => is_place(to) && is_place(inner) && below(edge, EDGES),
+        Edit::Kfmrh { kept, killed } => below(kept, FACES) && below(killed, FACES),
+        Edit::Move { vertex, at } => is_vertex(vertex, at),
     }
 }

@@ -1,5 +1,5 @@
 use Rattle.std.proofs.Common.{rules}
-use Rattle.solid.proofs.Edits.{out_of_range, mvfs_done, kvfs_done, mev_fits, mev_done, kev_done, mef_fits, mef_done, kef_done, kemr_done, mekr_fits, mekr_done, kfmrh_done, move_fits, move_done}
+use Rattle.solid.proofs.Edits.{out_of_range, mvfs_done, kvfs_done, mev_done, kev_done, mef_done, kef_done, kemr_done, mekr_done, kfmrh_done, move_done}
 use Rattle.solid.proofs.Solid.apply.Goals as goal
 
 pub returns-then-not-in_range : goal.returns-then-not-in_range
@@ -15,30 +15,20 @@ returns-in-Kvfs c =
     let i = c.in-Kvfs in
     let d = kvfs_done c.args.edit c.if-not-in_range.ensures i.shell i.is c.named-in-Kvfs.result (search rules) c.args.self.now.boundary c.kvfs.result c.kvfs.new.self.boundary c.kvfs.ensures in record { reply = d.reply; left = d.left; sound = d.sound }
 
-pub mev-requires : goal.mev-requires
-mev-requires c =
-    let i = c.in-Mev in
-    mev_fits c.args.edit c.if-not-in_range.ensures i.place i.edge i.vertex i.at i.is c.named-in-Mev.result c.named-in-Mev-2.result c.named-in-Mev-3.result (search rules) (search rules) (search rules)
-
 pub returns-in-Mev : goal.returns-in-Mev
 returns-in-Mev c =
     let i = c.in-Mev in
-    let d = mev_done c.args.edit c.if-not-in_range.ensures i.place i.edge i.vertex i.at i.is c.named-in-Mev.result c.named-in-Mev-2.result c.named-in-Mev-3.result (search rules) (search rules) (search rules) c.args.self.now.boundary c.mev.result c.mev.new.self.boundary c.mev.ensures in record { reply = d.reply; left = d.left; sound = d.sound }
+    let d = mev_done c.args.edit c.if-not-in_range.ensures i.place i.edge i.vertex i.at i.is c.named-in-Mev.result c.named-in-Mev-2.result.number c.named-in-Mev-3.result (search rules) (search rules) (search rules) c.args.self.now.boundary c.mev.result c.mev.new.self.boundary c.mev.ensures in record { reply = d.reply; left = d.left; sound = d.sound }
 
 pub returns-in-Kev : goal.returns-in-Kev
 returns-in-Kev c =
     let i = c.in-Kev in
     let d = kev_done c.args.edit c.if-not-in_range.ensures i.half i.is c.named-in-Kev.result (search rules) c.args.self.now.boundary c.kev.result c.kev.new.self.boundary c.kev.ensures in record { reply = d.reply; left = d.left; sound = d.sound }
 
-pub mef-requires : goal.mef-requires
-mef-requires c =
-    let i = c.in-Mef in
-    mef_fits c.args.edit c.if-not-in_range.ensures i.from i.to i.edge i.face i.outer i.is c.named-in-Mef.result c.named-in-Mef-2.result c.named-in-Mef-3.result c.named-in-Mef-4.result c.named-in-Mef-5.result (search rules) (search rules) (search rules) (search rules) (search rules)
-
 pub returns-in-Mef : goal.returns-in-Mef
 returns-in-Mef c =
     let i = c.in-Mef in
-    let d = mef_done c.args.edit c.if-not-in_range.ensures i.from i.to i.edge i.face i.outer i.is c.named-in-Mef.result c.named-in-Mef-2.result c.named-in-Mef-3.result c.named-in-Mef-4.result c.named-in-Mef-5.result (search rules) (search rules) (search rules) (search rules) (search rules) c.args.self.now.boundary c.mef.result c.mef.new.self.boundary c.mef.ensures in record { reply = d.reply; left = d.left; sound = d.sound }
+    let d = mef_done c.args.edit c.if-not-in_range.ensures i.from i.to i.edge i.face i.outer i.is c.named-in-Mef.result c.named-in-Mef-2.result c.named-in-Mef-3.result.number c.named-in-Mef-4.result c.named-in-Mef-5.result (search rules) (search rules) (search rules) (search rules) (search rules) c.args.self.now.boundary c.mef.result c.mef.new.self.boundary c.mef.ensures in record { reply = d.reply; left = d.left; sound = d.sound }
 
 pub returns-in-Kef : goal.returns-in-Kef
 returns-in-Kef c =
@@ -50,25 +40,15 @@ returns-in-Kemr c =
     let i = c.in-Kemr in
     let d = kemr_done c.args.edit c.if-not-in_range.ensures i.half i.inner i.is c.named-in-Kemr.result c.named-in-Kemr-2.result (search rules) (search rules) c.args.self.now.boundary c.kemr.result c.kemr.new.self.boundary c.kemr.ensures in record { reply = d.reply; left = d.left; sound = d.sound }
 
-pub mekr-requires : goal.mekr-requires
-mekr-requires c =
-    let i = c.in-Mekr in
-    mekr_fits c.args.edit c.if-not-in_range.ensures i.to i.inner i.edge i.is c.named-in-Mekr.result c.named-in-Mekr-2.result c.named-in-Mekr-3.result (search rules) (search rules) (search rules)
-
 pub returns-in-Mekr : goal.returns-in-Mekr
 returns-in-Mekr c =
     let i = c.in-Mekr in
-    let d = mekr_done c.args.edit c.if-not-in_range.ensures i.to i.inner i.edge i.is c.named-in-Mekr.result c.named-in-Mekr-2.result c.named-in-Mekr-3.result (search rules) (search rules) (search rules) c.args.self.now.boundary c.mekr.result c.mekr.new.self.boundary c.mekr.ensures in record { reply = d.reply; left = d.left; sound = d.sound }
+    let d = mekr_done c.args.edit c.if-not-in_range.ensures i.to i.inner i.edge i.is c.named-in-Mekr.result c.named-in-Mekr-2.result c.named-in-Mekr-3.result.number (search rules) (search rules) (search rules) c.args.self.now.boundary c.mekr.result c.mekr.new.self.boundary c.mekr.ensures in record { reply = d.reply; left = d.left; sound = d.sound }
 
 pub returns-in-Kfmrh : goal.returns-in-Kfmrh
 returns-in-Kfmrh c =
     let i = c.in-Kfmrh in
     let d = kfmrh_done c.args.edit c.if-not-in_range.ensures i.kept i.killed i.is c.named-in-Kfmrh.result c.named-in-Kfmrh-2.result (search rules) (search rules) c.args.self.now.boundary c.kfmrh.result c.kfmrh.new.self.boundary c.kfmrh.ensures in record { reply = d.reply; left = d.left; sound = d.sound }
-
-pub move_vertex-requires : goal.move_vertex-requires
-move_vertex-requires c =
-    let i = c.in-Move in
-    move_fits c.args.edit c.if-not-in_range.ensures i.vertex i.at i.is c.named-in-Move.result (search rules)
 
 pub returns-in-Move : goal.returns-in-Move
 returns-in-Move c =
