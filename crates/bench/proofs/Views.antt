@@ -11,8 +11,9 @@ use Rattle.disk.specs.Eithers.{EitherDid}
 use Rattle.disk.specs.Chains.{Chain, none, first}
 use Rattle.disk.specs.Settlings.{Went, read_all}
 use Rattle.disk.specs.Stops.{Stopped}
-use Rattle.bench.specs.Lives.{BehindStop, BehindTwo}
-use Rattle.bench.proofs.Maps.{chain_map, stopped_map}
+use Rattle.disk.specs.Behind.{BehindStop}
+use Rattle.disk.proofs.Maps.{chain_map, stopped_map}
+use Rattle.bench.specs.Lives.{BehindTwo}
 
 abbrev pub lent_cells : Settling Lent → List Cell
 lent_cells w = w.cells.cells.now

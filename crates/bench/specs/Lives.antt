@@ -5,12 +5,9 @@ use Rattle.disk.specs.Calls.{Call}
 use Rattle.disk.specs.Chains.{Chain}
 use Rattle.disk.specs.Settlings.{Went, read_all}
 use Rattle.disk.specs.Stops.{Stopped}
+use Rattle.disk.specs.Behind.{BehindStop}
 
--- a call of a settling disk behind a stop: its cells, and the calls left
-abbrev pub BehindStop : List Cell × ℕ → Call → List Cell × ℕ → Type 0
-BehindStop s c t = Stopped read_all Went s.0 s.1 c t.0 t.1
-
--- the same behind one more stop
+-- a call of a settling disk behind a stop and one more stop
 abbrev pub BehindTwo : (List Cell × ℕ) × ℕ → Call → (List Cell × ℕ) × ℕ → Type 0
 BehindTwo s c t = Stopped (λ u. read_all u.0) BehindStop s.0 s.1 c t.0 t.1
 

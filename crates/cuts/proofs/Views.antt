@@ -6,8 +6,8 @@ use Rattle.disk.specs.declared.Stop.{Stop}
 use Rattle.disk.specs.Calls.{Call}
 use Rattle.disk.specs.Settlings.{Went, read_all}
 use Rattle.disk.specs.Stops.{Stopped}
-use Rattle.cuts.specs.Cuts.{BehindStop}
-use Rattle.cuts.proofs.Maps.{stopped_map}
+use Rattle.disk.specs.Behind.{BehindStop}
+use Rattle.disk.proofs.Maps.{stopped_map}
 
 abbrev pub own_cells : Settling (List Cell) → List Cell
 own_cells w = w.cells

@@ -10,12 +10,7 @@ use Rattle.faults.specs.declared.JournalFault.{JournalFault}
 use Rattle.journal.specs.declared.Extent.{Extent}
 use Rattle.journal.specs.Appends.{Appends}
 use Rattle.journal.specs.Readings.{Looked}
-use Rattle.disk.specs.Calls.{Call}
-use Rattle.disk.specs.Stops.{Stopped}
-
--- a call of a settling disk behind a stop: its cells, and the calls left
-abbrev pub BehindStop : List Cell × ℕ → Call → List Cell × ℕ → Type 0
-BehindStop s c t = Stopped read_all Went s.0 s.1 c t.0 t.1
+use Rattle.disk.specs.Behind.{BehindStop}
 
 -- a point of the plane z = 0
 abbrev pub flat : ℤ → ℤ → Point

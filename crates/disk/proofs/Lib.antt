@@ -1,3 +1,4 @@
 pub mod Rules
 pub mod Losses
 pub mod Chains
+pub mod Maps

@@ -6,6 +6,7 @@ pub mod Chains
 pub mod Losses
 pub mod Stops
 pub mod Settlings
+pub mod Behind
 pub mod Eithers
 pub mod StopsLemmas
 pub mod Views

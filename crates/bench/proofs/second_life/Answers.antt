@@ -1,7 +1,8 @@
 use Rattle.std.proofs.Common.{◌≡◌, sym, ap, ◌∙◌, subst}
 use Rattle.disk.specs.Chains.{Chain}
 use Rattle.disk.specs.Settlings.{Went}
-use Rattle.bench.specs.Lives.{BehindStop, Relived}
+use Rattle.disk.specs.Behind.{BehindStop}
+use Rattle.bench.specs.Lives.{Relived}
 use Rattle.bench.specs.Steps.{calls_of}
 use Rattle.bench.proofs.Views.{lent_cells, stopped_once, Side, lived_side}
 use Rattle.bench.proofs.second_life.Goals as goal

@@ -2,7 +2,8 @@ use Rattle.std.proofs.Common.{◌≡◌, replicate, sym, ap, ◌∙◌, subst}
 use Rattle.disk.specs.Settlings.{blank_cells}
 use Rattle.journal.specs.Appends.{Appends}
 use Rattle.journal.specs.Drafts.{drafted}
-use Rattle.cuts.specs.Cuts.{BehindStop, nothing}
+use Rattle.disk.specs.Behind.{BehindStop}
+use Rattle.cuts.specs.Cuts.{nothing}
 use Rattle.cuts.proofs.Maps.{appends_map}
 use Rattle.cuts.proofs.Views.{own_cells, stopped_once, DidOnce, once}
 use Rattle.cuts.proofs.appended.Goals as goal
