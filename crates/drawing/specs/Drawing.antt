@@ -37,13 +37,10 @@ abbrev pub left : Boundary → Result Edit Fault → Boundary
 left b (Ok e) = after b e
 left b (Err f) = b
 
-abbrev pub reply_of : ℕ → Result (Unit {0}) Fault → Reply
-reply_of n r = record { line = n; done = r }
-
 -- a line without a word has none
 abbrev pub line_reply : ℕ → Boundary → List Part → Option Reply
 line_reply n b [] = None
-line_reply n b (t ∷ ts) = Some (reply_of n (done b (asked t ts)))
+line_reply n b (t ∷ ts) = Some (record { line = n; done = done b (asked t ts) })
 
 abbrev pub after_line : Boundary → List Part → Boundary
 after_line b [] = b

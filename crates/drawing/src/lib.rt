@@ -84,7 +84,7 @@ fn numbers<const N: usize>(rest: &mut Line<'_>) -> Option<[i32; N]>
     ensures { result ≡ numbers N (tokens_left rest.old) }
 {
     let mut all = [0; N];
-    for number in all.iter_mut() {
+    for number in &mut all {
         let Token::Number { value, .. } = rest.next()? else {
             return None;
         };
