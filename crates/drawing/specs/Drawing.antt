@@ -17,7 +17,6 @@ use Rattle.words.specs.Words.{Part, lines, tokens}
 use Rattle.drawing.specs.declared.Fault.{Fault}
 use Rattle.drawing.specs.declared.Fault.TheVariants.{UnknownOperator, WrongArguments, Refused}
 use Rattle.drawing.specs.declared.Reply.{Reply}
-use Rattle.drawing.specs.declared.Reply.TheVariants.{Ok as ok, No}
 use Rattle.drawing.specs.Commands.{asked}
 
 abbrev pub code : Fault → ℕ
@@ -38,22 +37,21 @@ abbrev pub left : Boundary → Result Edit Fault → Boundary
 left b (Ok e) = after b e
 left b (Err f) = b
 
-abbrev pub reply_of : ℕ → Result (Unit {0}) Fault → Reply
-reply_of n (Ok u) = ok
-reply_of n (Err f) = No (code f) n
-
 -- a line without a word has none
 abbrev pub line_reply : ℕ → Boundary → List Part → Option Reply
 line_reply n b [] = None
-line_reply n b (t ∷ ts) = Some (reply_of n (done b (asked t ts)))
+line_reply n b (t ∷ ts) = Some (record { line = n; done = done b (asked t ts) })
 
 abbrev pub after_line : Boundary → List Part → Boundary
 after_line b [] = b
 after_line b (t ∷ ts) = left b (asked t ts)
 
+abbrev pub shown_at : ℕ → Result (Unit {0}) Fault → List ℕ
+shown_at n (Ok u) = codes "ok" ++ 10 ∷ []
+shown_at n (Err f) = codes "no " ++ decimal (code f) ++ codes " " ++ decimal n ++ 10 ∷ []
+
 abbrev pub shown : Reply → List ℕ
-shown ok = codes "ok" ++ 10 ∷ []
-shown (No f n) = codes "no " ++ decimal f ++ codes " " ++ decimal n ++ 10 ∷ []
+shown r = shown_at r.line r.done
 
 abbrev pub line_shown : Option Reply → List ℕ
 line_shown None = []

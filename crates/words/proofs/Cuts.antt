@@ -1,14 +1,25 @@
 -- The first piece of a cut, and the first token of a line.
-use Rattle.std.proofs.Common.{◌≡◌, ℕ, suc, ◌+◌, ◌-◌, ◌<◌, ◌≤◌, Bool, true, false, cond, not, eqb, List, [], ◌∷◌, map, length, take, drop, ℤ, Option, sym, refl, ap, ◌∙◌, ap₂, add-zero, add_assoc, one-add, arith}
-use native.Mathlib.Nat.{sub-zero}
+use Rattle.std.proofs.Common.{◌≡◌, ℕ, suc, ◌+◌, ◌-◌, ◌<◌, ◌≤◌, Bool, true, false, cond, not, eqb, List, [], ◌∷◌, map, length, take, drop, ℤ, Option, Some, None, sym, refl, ap, ◌∙◌, ap₂, add-zero, add_assoc, one-add, arith}
 use Rattle.std.proofs.lemmas.List.{take_all, drop_all, drop_more, drop-drop, take_rest, length-take-le, length-drop}
 use Rattle.std.proofs.lemmas.List.Sums.{prefix_len-le-length}
-use Rattle.std.specs.List.{prefix_len}
-use Rattle.words.specs.Words.{onto, cut, lines, filled, words, placed, tokens, number}
+use Rattle.std.proofs.lemmas.Bool.Decides.{nat_tests}
+use Rattle.std.specs.List.{position, position_or_len}
+use Rattle.std.specs.Option.{unwrap_or}
+use Rattle.words.specs.Words.{Part, onto, cut, lines, filled, words, placed, tokens, number}
+
+-- what `position` found
+pub found : {X : Type 0} (p : X → Bool) (xs : List X) (n : ℕ) → Some n ≡ position p xs → (n ≡ position_or_len p xs) × (n < length xs)
+found p xs n e = grind (arith, nat_tests)
+
+pub not_found : {X : Type 0} (p : X → Bool) (xs : List X) → None ≡ position p xs → length xs ≤ position_or_len p xs
+not_found p xs e = grind (arith, nat_tests)
+
+pub found_or : {X : Type 0} (p : X → Bool) (xs : List X) (r : Option ℕ) → r ≡ position p xs → unwrap_or r (length xs) ≡ position_or_len p xs
+found_or p xs r e = grind (arith, nat_tests, prefix_len-le-length)
 
 -- how many bytes stand before the first c
 abbrev pub before : ℕ → List ℕ → ℕ
-before c bs = prefix_len (λ b. not (eqb b c)) bs
+before c bs = position_or_len (λ b. eqb b c) bs
 
 -- the pieces behind a byte c that ends a piece, if there is one
 abbrev pub behind : ℕ → List ℕ → List (List ℕ)
@@ -24,24 +35,27 @@ split c (b ∷ bs) = go (split c bs) (eqb b c)
     go e false = rw (e, one-add)
 
 -- the first line, where a line feed ends it
-pub line_then : (bs : List ℕ) (n : ℕ) → n ≡ before 10 bs → n < length bs → lines bs ≡ take (n - 0) bs ∷ lines (take (length bs - (n + 1)) (drop (n + 1) bs))
-line_then bs n e h =
-    let rest : behind 10 (drop n bs) ≡ lines (take (length bs - (n + 1)) (drop (n + 1) bs)) = ap (behind 10) (drop_more bs n 0 h) ∙ ap (cut 10) (sym (take_rest bs (n + 1))) in
-    split 10 bs ∙ rw (← e, sub-zero) (ap (λ x. take n bs ∷ x) rest)
+pub line_then : (bs : List ℕ) (n : ℕ) → Some n ≡ position (λ b. eqb b 10) bs → lines bs ≡ take n bs ∷ lines (take (length bs - (n + 1)) (drop (n + 1) bs))
+line_then bs n e =
+    let here = found (λ b. eqb b 10) bs n e in
+    let rest : behind 10 (drop n bs) ≡ lines (take (length bs - (n + 1)) (drop (n + 1) bs)) = ap (behind 10) (drop_more bs n 0 here.1) ∙ ap (cut 10) (sym (take_rest bs (n + 1))) in
+    split 10 bs ∙ rw (← here.0) (ap (λ x. take n bs ∷ x) rest)
 
 -- the last line
-pub line_else : (bs : List ℕ) (n : ℕ) → n ≡ before 10 bs → length bs ≤ n → lines bs ≡ bs ∷ []
-line_else bs n e h = split 10 bs ∙ ap₂ (λ x y. x ∷ y) (rw (← e) (take_all n bs h)) (rw (← e) (ap (behind 10) (drop_all n bs h)))
+pub line_else : (bs : List ℕ) → None ≡ position (λ b. eqb b 10) bs → lines bs ≡ bs ∷ []
+line_else bs e =
+    let all = not_found (λ b. eqb b 10) bs e in
+    split 10 bs ∙ ap₂ (λ x y. x ∷ y) (take_all (before 10 bs) bs all) (ap (behind 10) (drop_all (before 10 bs) bs all))
 
 -- how many spaces stand in front
 abbrev pub spaces : List ℕ → ℕ
-spaces bs = prefix_len (λ b. eqb b 32) bs
+spaces bs = position_or_len (λ b. not (eqb b 32)) bs
 
 skip : (n : ℕ) (bs : List ℕ) → tokens n bs ≡ tokens (n + spaces bs) (drop (spaces bs) bs)
 skip n [] = refl
 skip n (b ∷ bs) = go (eqb b 32) refl (skip (n + 1) bs)
   where
-    go : (t : Bool) → eqb b 32 ≡ t → tokens (n + 1) bs ≡ tokens (n + 1 + spaces bs) (drop (spaces bs) bs) → placed n (cond t ([] ∷ cut 32 bs) (onto b (cut 32 bs))) ≡ tokens (n + cond t (1 + spaces bs) 0) (drop (cond t (1 + spaces bs) 0) (b ∷ bs))
+    go : (t : Bool) → eqb b 32 ≡ t → tokens (n + 1) bs ≡ tokens (n + 1 + spaces bs) (drop (spaces bs) bs) → placed n (cond t ([] ∷ cut 32 bs) (onto b (cut 32 bs))) ≡ tokens (n + cond (not (not t)) (1 + spaces bs) 0) (drop (cond (not (not t)) (1 + spaces bs) 0) (b ∷ bs))
     go true e ih = ih ∙ rw (add_assoc n 1 (spaces bs), one-add (spaces bs))
     go false e ih = rw (add-zero n, e)
 
@@ -49,7 +63,7 @@ no_space : (bs : List ℕ) → spaces (drop (spaces bs) bs) ≡ 0
 no_space [] = refl
 no_space (b ∷ bs) = go (eqb b 32) refl (no_space bs)
   where
-    go : (t : Bool) → eqb b 32 ≡ t → spaces (drop (spaces bs) bs) ≡ 0 → spaces (drop (cond t (1 + spaces bs) 0) (b ∷ bs)) ≡ 0
+    go : (t : Bool) → eqb b 32 ≡ t → spaces (drop (spaces bs) bs) ≡ 0 → spaces (drop (cond (not (not t)) (1 + spaces bs) 0) (b ∷ bs)) ≡ 0
     go true e ih = rw one-add ih
     go false e ih = rw e
 
@@ -67,56 +81,49 @@ next : (n : ℕ) (bs : List ℕ) → 0 < length bs → spaces bs ≡ 0 → token
 next n [] some none = absurd (omega arith)
 next n (b ∷ bs) some none = go (eqb b 32) refl none
   where
-    go : (t : Bool) → eqb b 32 ≡ t → cond t (1 + spaces bs) 0 ≡ 0 → placed n (cond t ([] ∷ cut 32 bs) (onto b (cut 32 bs))) ≡ record { place = n; text = take (cond (not t) (1 + before 32 bs) 0) (b ∷ bs); value = number (take (cond (not t) (1 + before 32 bs) 0) (b ∷ bs)) } ∷ tokens (n + cond (not t) (1 + before 32 bs) 0) (drop (cond (not t) (1 + before 32 bs) 0) (b ∷ bs))
+    go : (t : Bool) → eqb b 32 ≡ t → cond (not (not t)) (1 + spaces bs) 0 ≡ 0 → placed n (cond t ([] ∷ cut 32 bs) (onto b (cut 32 bs))) ≡ record { place = n; text = take (cond (not t) (1 + before 32 bs) 0) (b ∷ bs); value = number (take (cond (not t) (1 + before 32 bs) 0) (b ∷ bs)) } ∷ tokens (n + cond (not t) (1 + before 32 bs) 0) (drop (cond (not t) (1 + before 32 bs) 0) (b ∷ bs))
     go true e z = absurd (omega arith)
     go false e z = rw (split 32 bs, one-add (before 32 bs), ← on (n + suc (before 32 bs)) bs, length-take-le (before 32 bs) bs (prefix_len-le-length _ bs))
 
--- what a search of a line from the byte n on passes
-pub passed : (bs : List ℕ) (n : ℕ) (p : ℕ → Bool) → prefix_len p (take (length bs - n) (drop n bs)) ≤ length bs - n
-passed bs n p = rw take_rest (simp length-drop at (prefix_len-le-length p (drop n bs)))
-
--- a line from the byte n on
-module _ (bs : List ℕ) (n : ℕ) where
-  pub none_from : length bs ≤ n → tokens n (drop n bs) ≡ []
-  none_from h = ap (tokens n) (drop_all n bs h)
-
-  -- behind g spaces
-  pub behind_gap : (g : ℕ) → g ≡ spaces (take (length bs - n) (drop n bs)) → (tokens n (drop n bs) ≡ tokens (n + g) (drop (n + g) bs)) × (spaces (drop (n + g) bs) ≡ 0)
-  behind_gap g e =
-      let is : g ≡ spaces (drop n bs) = e ∙ ap spaces (take_rest bs n) in (
-        skip n (drop n bs) ∙ rw (← is, drop-drop),
-        rw (← drop-drop g n bs, is) (no_space (drop n bs)),
-      )
-
--- the token of r bytes at the place n
-module _ (bs : List ℕ) (n r : ℕ) (e : r ≡ before 32 (take (length bs - n) (drop n bs))) where
-  next_from : n < length bs → spaces (drop n bs) ≡ 0 → tokens n (drop n bs) ≡ record { place = n; text = take (r - 0) (take (length bs - n) (drop n bs)); value = number (take (r - 0) (take (length bs - n) (drop n bs))) } ∷ tokens (n + r) (drop (n + r) bs)
-  next_from h none =
-      let is : r ≡ before 32 (drop n bs) = e ∙ ap (before 32) (take_rest bs n) in
-      rw (take_rest bs n, sub-zero r, ← drop-drop r n bs, is) (next n (drop n bs) (simp length-drop (omega arith)) none)
-
-  lies_from : take (r - 0) (take (length bs - n) (drop n bs)) ≡ take (length (take (r - 0) (take (length bs - n) (drop n bs)))) (drop n bs)
-  lies_from =
-      let within : r ≤ length (drop n bs) = simp length-drop (omega (arith, e, passed bs n (λ b. not (eqb b 32)))) in
-      rw (take_rest bs n, sub-zero r, length-take-le r (drop n bs) within)
-
 -- the texts of the tokens are the words
-pub texts : (n : ℕ) (ps : List (List ℕ)) → map (λ p. p.text) (placed n ps) ≡ filled ps
+texts : (n : ℕ) (ps : List (List ℕ)) → map (λ p. p.text) (placed n ps) ≡ filled ps
 texts n [] = refl
 texts n ([] ∷ ps) = texts (n + 1) ps
 texts n ((b ∷ p) ∷ ps) = ap (λ x. (b ∷ p) ∷ x) (texts (n + length (b ∷ p) + 1) ps)
 
--- no token is left
-pub none_left : (bs : List ℕ) (n : ℕ) → tokens n (drop n bs) ≡ [] → (tokens n (drop n bs) ≡ []) × (words (drop n bs) ≡ [])
-none_left bs n e = (e, sym (texts n (cut 32 (drop n bs))) ∙ ap (map (λ p. p.text)) e)
+-- the words of a line whose tokens from the place n on are known
+words_of : (n : ℕ) (bs : List ℕ) (ts : List Part) → tokens n bs ≡ ts → words bs ≡ map (λ p. p.text) ts
+words_of n bs ts e = sym (texts n (cut 32 bs)) ∙ ap (map (λ p. p.text)) e
 
--- the token of r bytes behind g spaces
-pub taken : (bs : List ℕ) (n g r : ℕ) (v : Option ℤ) → g ≡ spaces (take (length bs - n) (drop n bs)) → n + g < length bs → r ≡ before 32 (take (length bs - (n + g)) (drop (n + g) bs)) → v ≡ number (take (r - 0) (take (length bs - (n + g)) (drop (n + g) bs)))
-    → (tokens n (drop n bs) ≡ record { place = n + g; text = take (r - 0) (take (length bs - (n + g)) (drop (n + g) bs)); value = v } ∷ tokens (n + g + r) (drop (n + g + r) bs))
-    × (words (drop n bs) ≡ take (r - 0) (take (length bs - (n + g)) (drop (n + g) bs)) ∷ words (drop (n + g + r) bs))
-    × (take (r - 0) (take (length bs - (n + g)) (drop (n + g) bs)) ≡ take (length (take (r - 0) (take (length bs - (n + g)) (drop (n + g) bs)))) (drop (n + g) bs))
-taken bs n g r v gap inside size value =
-    let to = behind_gap bs n g gap in
-    let all = to.0 ∙ next_from bs (n + g) r size inside to.1 in
-    let left = texts (n + g + r) (cut 32 (drop (n + g + r) bs)) in
-    (rw value all, sym (texts n (cut 32 (drop n bs))) ∙ ap (map (λ p. p.text)) all ∙ ap (λ ws. take (r - 0) (take (length bs - (n + g)) (drop (n + g) bs)) ∷ ws) left, lies_from bs (n + g) r size)
+-- the rest of a line from the byte n on
+module _ (bs : List ℕ) (n : ℕ) where
+  -- nothing but spaces is left
+  pub none_left : None ≡ position (λ b. not (eqb b 32)) (take (length bs - n) (drop n bs)) → (tokens n (drop n bs) ≡ []) × (words (drop n bs) ≡ [])
+  none_left e =
+      let all = not_found (λ b. not (eqb b 32)) (drop n bs) (rw take_rest at e) in
+      let none = skip n (drop n bs) ∙ ap (tokens _) (drop_all (spaces (drop n bs)) (drop n bs) all) in
+      (none, words_of n (drop n bs) [] none)
+
+  -- the token of r bytes behind g spaces
+  module _ (g r : ℕ) (v : Option ℤ) where
+    abbrev rest : List ℕ
+    rest = take (length bs - (n + g)) (drop (n + g) bs)
+
+    pub taken : Some g ≡ position (λ b. not (eqb b 32)) (take (length bs - n) (drop n bs)) → r ≡ before 32 rest → v ≡ number (take r rest)
+        → (tokens n (drop n bs) ≡ record { place = n + g; text = take r rest; value = v } ∷ tokens (n + g + r) (drop (n + g + r) bs))
+        × (words (drop n bs) ≡ take r rest ∷ words (drop (n + g + r) bs))
+        × (take r rest ≡ take (length (take r rest)) (drop (n + g) bs))
+        × (n + g + r ≤ length bs)
+    taken e size value =
+        let here = found (λ b. not (eqb b 32)) (drop n bs) g (rw take_rest at e) in
+        let all_of : rest ≡ drop (n + g) bs = take_rest bs (n + g) in
+        let long : r ≡ before 32 (drop (n + g) bs) = size ∙ ap (before 32) all_of in
+        let within : r ≤ length (drop (n + g) bs) = omega (arith, long, prefix_len-le-length (λ b. not (eqb b 32)) (drop (n + g) bs)) in
+        let some : 0 < length (drop (n + g) bs) = omega (arith, here.1, length-drop n bs, length-drop (n + g) bs) in
+        let ends : n + g + r ≤ length bs = omega (arith, within, some, length-drop (n + g) bs) in
+        let to : drop g (drop n bs) ≡ drop (n + g) bs = drop-drop g n bs in
+        let none : spaces (drop (n + g) bs) ≡ 0 = rw (← to, here.0) (no_space (drop n bs)) in
+        let skipped : tokens n (drop n bs) ≡ tokens (n + g) (drop (n + g) bs) = skip n (drop n bs) ∙ rw (← here.0, to) in
+        let all = skipped ∙ rw (value, all_of, ← drop-drop r (n + g) bs, long) (next (n + g) (drop (n + g) bs) some none) in
+        let left = texts (n + g + r) (cut 32 (drop (n + g + r) bs)) in
+        (all, words_of n (drop n bs) _ all ∙ ap (λ ws. take r rest ∷ ws) left, rw (all_of, length-take-le r (drop (n + g) bs) within), ends)

@@ -5,8 +5,10 @@
 --     part t           the token t as a part of its line: its place, text and value
 --     text_of t        its text
 --     Lies t bs        its text lies at its place in the line bs
-use Rattle.std.specs.Prelude.{◌≡◌, ℕ, List, [], ◌∷◌, length, take, drop, Some, None, Option}
+--     TakesToken       what a call for the next token of a line takes and leaves
+use Rattle.std.specs.Prelude.{◌≡◌, ℕ, ◌≤◌, List, [], ◌∷◌, length, take, drop, IfSome, Some, None, Option}
 use Rattle.std.specs.Borrow.{Bor}
+use Rattle.std.specs.Iterator.{YieldsFirstBy}
 use Rattle.words.specs.declared.Lines.{Lines}
 use Rattle.words.specs.declared.Line.{Line}
 use Rattle.words.specs.declared.Token.{Token}
@@ -40,4 +42,11 @@ Lies t bs = text_of t ≡ take (length (text_of t)) (drop (part t).place bs)
 -- r is the first token of the line bs from the byte n on, with the place behind it, if there is one
 abbrev pub Taken : List ℕ → ℕ → Option (Token × ℕ) → Type 0
 Taken bs n None = (tokens n (drop n bs) ≡ []) × (words (drop n bs) ≡ [])
-Taken bs n (Some p) = (tokens n (drop n bs) ≡ part p.0 ∷ tokens p.1 (drop p.1 bs)) × (words (drop n bs) ≡ text_of p.0 ∷ words (drop p.1 bs)) × Lies p.0 bs
+Taken bs n (Some p) = (tokens n (drop n bs) ≡ part p.0 ∷ tokens p.1 (drop p.1 bs)) × (words (drop n bs) ≡ text_of p.0 ∷ words (drop p.1 bs)) × Lies p.0 bs × (p.1 ≤ length bs)
+
+-- a call that took the token r from the line l, if there was one, and left the line m
+pub record TakesToken (l : Line) (r : Option Token) (m : Line) : Type 0 where
+  pub tokens : YieldsFirstBy part tokens_left l r m
+  pub words : YieldsFirstBy text_of words_left l r m
+  pub lies : IfSome r (λ t. Lies t l.bytes.now)
+  pub bytes : m.bytes ≡ l.bytes

@@ -57,13 +57,3 @@ placed n ((b ∷ p) ∷ ps) = record { place = n; text = b ∷ p; value = number
 
 abbrev pub tokens : ℕ → List ℕ → List Part
 tokens n bs = placed n (cut 32 bs)
-
--- the first of a list, if there is one
-abbrev pub first : {X : Type 0} → List X → Option X
-first [] = None
-first (x ∷ xs) = Some x
-
--- what stands behind the first of a list
-abbrev pub others : {X : Type 0} → List X → List X
-others [] = []
-others (x ∷ xs) = xs

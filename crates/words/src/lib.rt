@@ -1,11 +1,8 @@
 // Cuts an input of bytes into lines, words and numbers, which borrow the input.
 #![tactic(auto)]
 
-ghost use Rattle.std.specs.Prelude.{◌≡◌, ◌^◌, ◌<◌, not, ◌∷◌, IfSome, ◌==◌, nat_eq};
-ghost use Rattle.std.specs.Option.{option_map};
-ghost use Rattle.std.specs.List.{prefix_len};
-ghost use Rattle.words.specs.Words.{lines, words, tokens, numeral, number, first, others};
-ghost use Rattle.words.specs.Left.{lines_behind, lines_left, tokens_left, words_left, part, text_of, Lies, Taken};
+ghost use Rattle.std.specs.Prelude.{◌≡◌, ◌^◌, ◌<◌, ◌≤◌, ◌∷◌, IfSome, length};
+ghost use Rattle.words.specs.Words.{lines, words, tokens, numeral, number};
 
 // The lines of an input that are not taken yet: none is left behind the last.
 #[derive(Clone, Copy)]
@@ -18,6 +15,7 @@ pub struct Lines<'a> {
 pub struct Line<'a> {
     bytes: &'a [u8],
     at: usize,
+    ghost within: { at ≤ length bytes.now },
 }
 
 // A word of a line, and the place of its first byte in the line.
@@ -34,41 +32,17 @@ pub enum Token<'a> {
     },
 }
 
-// How many bytes stand before the first `stop`.
-fn reach(bytes: &[u8], stop: u8) -> usize
-    ensures { result ≡ prefix_len (λ b. not (b == stop)) bytes.now }
-{
-    for (i, b) in bytes.iter().enumerate() {
-        if *b == stop {
-            return i;
-        }
-    }
-    bytes.len()
-}
-
-// How many spaces stand in front.
-fn gap(bytes: &[u8]) -> usize
-    ensures { result ≡ prefix_len (λ b. nat_eq b 32) bytes.now }
-{
-    for (i, b) in bytes.iter().enumerate() {
-        if *b != b' ' {
-            return i;
-        }
-    }
-    bytes.len()
-}
-
 // The number that 1 to 9 digits write.
 fn numeral(text: &[u8]) -> Option<u32>
     ensures value { result ≡ numeral text.now }
     ensures small { IfSome result (λ n. n < 10 ^ 9) }
 {
-    if text.len() < 1 || text.len() > 9 {
+    if text.is_empty() || text.len() > 9 {
         return None;
     }
-    let mut value: u32 = 0;
+    let mut value = 0;
     for b in text {
-        if *b < b'0' || *b > b'9' {
+        if !b.is_ascii_digit() {
             return None;
         }
         value = value * 10 + u32::from(*b - b'0');
@@ -80,68 +54,64 @@ fn numeral(text: &[u8]) -> Option<u32>
 pub fn number(text: &[u8]) -> Option<i32>
     ensures { result ≡ number text.now }
 {
-    if text.is_empty() || text[0] != b'-' {
-        let size = numeral(text)?;
-        return Some(size as i32);
-    }
-    let size = numeral(&text[1..])?;
-    Some(-(size as i32))
-}
-
-// The first line of an input, and what stands behind its line feed, if it has one.
-fn first_line(input: &[u8]) -> (&[u8], Option<&[u8]>)
-    ensures { lines input.now ≡ result.0.now ∷ lines_behind result.1 }
-{
-    let end = reach(input, b'\n');
-    if end < input.len() {
-        (&input[0..end], Some(&input[end + 1..]))
-    } else {
-        (input, None)
+    match text {
+        [b'-', digits @ ..] => numeral(digits).map(|size| -(size as i32)),
+        digits => numeral(digits).map(|size| size as i32),
     }
 }
 
-// The first token from the byte `from` on, and the place behind it.
-fn token_from(bytes: &[u8], from: usize) -> Option<(Token<'_>, usize)>
-    ensures { Taken bytes.now from result }
-{
-    if from >= bytes.len() {
-        return None;
-    }
-    let at = from + gap(&bytes[from..]);
-    if at >= bytes.len() {
-        return None;
-    }
-    let rest = &bytes[at..];
-    let size = reach(rest, b' ');
-    let text = &rest[0..size];
-    match number(text) {
-        Some(value) => Some((Token::Number { text, value, at }, at + size)),
-        None => Some((Token::Word { text, at }, at + size)),
+impl<'a> Token<'a> {
+    ghost use Rattle.words.specs.Left.{text_of};
+
+    pub fn text(self) -> &'a [u8]
+        ensures { result.now ≡ text_of self.entry }
+    {
+        match self {
+            Token::Word { text, .. } | Token::Number { text, .. } => text,
+        }
     }
 }
 
 impl<'a> Lines<'a> {
+    ghost use Rattle.words.specs.Left.{lines_behind, lines_left};
+
     pub fn new(input: &'a [u8]) -> Lines<'a>
         ensures { lines_left result ≡ lines input.now }
     {
         Lines { rest: Some(input) }
     }
 
-    // Takes the next line.
-    pub fn next_line(&mut self) -> Option<&'a [u8]>
-        ensures line { option_map (λ x. x.now) result ≡ first (lines_left self.old) }
-        ensures left { lines_left self.new ≡ others (lines_left self.old) }
+    // The first line of an input, and what stands behind its line feed, if it has one.
+    fn first(input: &'a [u8]) -> (&'a [u8], Option<&'a [u8]>)
+        ensures { lines input.now ≡ result.0.now ∷ lines_behind result.1 }
     {
-        let Some(rest) = self.rest else {
-            return None;
-        };
-        let (line, more) = first_line(rest);
-        self.rest = more;
+        match input.iter().position(|b| *b == b'\n') {
+            Some(end) => (&input[..end], Some(&input[end + 1..])),
+            None => (input, None),
+        }
+    }
+}
+
+impl<'a> Iterator for Lines<'a> {
+    ghost use Rattle.std.specs.Iterator.{YieldsFirstRef, item_count};
+    ghost use Rattle.words.specs.Left.{lines_left};
+
+    type Item = &'a [u8];
+
+    ghost next_gives = { YieldsFirstRef lines_left };
+
+    ghost remaining = { item_count lines_left };
+
+    fn next(&mut self) -> Option<&'a [u8]> {
+        let (line, rest) = Lines::first(self.rest?);
+        self.rest = rest;
         Some(line)
     }
 }
 
 impl<'a> Line<'a> {
+    ghost use Rattle.words.specs.Left.{tokens_left, words_left, Taken};
+
     pub fn new(bytes: &'a [u8]) -> Line<'a>
         ensures tokens { tokens_left result ≡ tokens 0 bytes.now }
         ensures words { words_left result ≡ words bytes.now }
@@ -149,19 +119,34 @@ impl<'a> Line<'a> {
         Line { bytes, at: 0 }
     }
 
-    // Takes the next token.
-    pub fn next_token(&mut self) -> Option<Token<'a>>
-        ensures token { option_map part result ≡ first (tokens_left self.old) }
-        ensures left { tokens_left self.new ≡ others (tokens_left self.old) }
-        ensures word { option_map text_of result ≡ first (words_left self.old) }
-        ensures words { words_left self.new ≡ others (words_left self.old) }
-        ensures lies { IfSome result (λ t. Lies t self.old.bytes.now) }
-        ensures bytes { self.new.bytes ≡ self.old.bytes }
+    // The first token that is left, and the place behind it.
+    fn first(&self) -> Option<(Token<'a>, usize)>
+        ensures { Taken self.now.bytes.now self.now.at result }
     {
-        let Some(taken) = token_from(self.bytes, self.at) else {
-            return None;
+        let at = self.at + self.bytes[self.at..].iter().position(|b| *b != b' ')?;
+        let rest = &self.bytes[at..];
+        let size = rest.iter().position(|b| *b == b' ').unwrap_or(rest.len());
+        let text = &rest[..size];
+        let token = match number(text) {
+            Some(value) => Token::Number { text, value, at },
+            None => Token::Word { text, at },
         };
-        let (token, end) = taken;
+        Some((token, at + size))
+    }
+}
+
+impl<'a> Iterator for Line<'a> {
+    ghost use Rattle.std.specs.Iterator.{item_count};
+    ghost use Rattle.words.specs.Left.{tokens_left, TakesToken};
+
+    type Item = Token<'a>;
+
+    ghost next_gives = { TakesToken };
+
+    ghost remaining = { item_count tokens_left };
+
+    fn next(&mut self) -> Option<Token<'a>> {
+        let (token, end) = self.first()?;
         self.at = end;
         Some(token)
     }

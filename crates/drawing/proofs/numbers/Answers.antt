@@ -1,29 +1,18 @@
 use Rattle.std.proofs.Common.{ap, ◌∙◌, arith, w32, SFits, rules}
-use native.Mathlib.Nat.{sub-zero}
-use Rattle.std.proofs.lemmas.List.{length-set, length-replicate}
+use Rattle.std.proofs.lemmas.List.{length-set}
 use Rattle.std.proofs.lemmas.Int.{to_z-of_z}
 use Rattle.words.specs.Left.{part, tokens_left}
-use Rattle.drawing.proofs.Arguments.{none_yet, too_few, word_taken, number_taken, all_taken}
+use Rattle.drawing.proofs.Arguments.{number_taken, taken}
 use Rattle.drawing.proofs.numbers.Goals as goal
 
-pub loop-i-init : goal.loop-i-init
-loop-i-init g c = (length-replicate g.row.N _, rw sub-zero (none_yet _))
-
-pub returns-in_default : goal.returns-in_default
-returns-in_default g c = too_few g.row.N c.loop-i.i c.loop-i.all (tokens_left c.loop-i.rest) _ c.loop-i.invariant.1 (omega arith) c.in_default.ensures.token
-
-pub returns-in_default-token : goal.returns-in_default-token
-returns-in_default-token g c =
-    word_taken g.row.N c.loop-i.i c.loop-i.all (tokens_left c.loop-i.rest) _ c.loop-i.invariant.1 (part c.in-Some.token) c.in-Some.ensures.token (ap (λ t. (part t).value) c.in_default-token.is)
-
-pub loop-i-preserved : goal.loop-i-preserved
-loop-i-preserved g c =
+pub loop-number-preserved : goal.loop-number-preserved
+loop-number-preserved g c =
     let fits : SFits w32 c.in-Number.value = search rules in
     let same = to_z-of_z w32 c.in-Number.value fits in
-    let sofar = c.loop-i.invariant in (
-      length-set c.loop-i.all _ _ ∙ sofar.0,
-      rw same (number_taken g.row.N c.loop-i.i c.loop-i.all (tokens_left c.loop-i.rest) _ sofar.1 (part c.in-Some.token) c.in-Number.value (tokens_left c.next_token.new.self) (omega arith) sofar.0 c.in-Some.ensures.token (ap (λ t. (part t).value) c.in-Number.is) c.in-Some.ensures.left),
+    let sofar = c.loop-number.invariant in (
+      length-set c.loop-number.number-items _ _ ∙ sofar.0,
+      rw same (number_taken g.row.N c.loop-number.number-index c.loop-number.number-items (tokens_left c.loop-number.rest) _ sofar.1 (part c.in_ok-value.field-0) (tokens_left c.next.new.self) c.in_ok-value.ensures.steps.tokens c.in-Number.value (omega arith) sofar.0 (ap (λ t. (part t).value) c.in-Number.is)),
     )
 
-pub returns-in-None : goal.returns-in-None
-returns-in-None g c = all_taken g.row.N c.loop-i.i c.loop-i.all (tokens_left c.loop-i.rest) _ c.loop-i.invariant.1 (omega arith) c.loop-i.invariant.0 c.in-None.ensures.token
+pub returns : goal.returns
+returns g c = c.then_some.ensures ∙ taken g.row.N c.loop-number.number-index c.loop-number.number-items (tokens_left c.loop-number.rest) _ c.loop-number.invariant.1 (omega arith) c.loop-number.invariant.0 part c.next-2.result (tokens_left c.next-2.new.self) c.is_none.result c.next-2.ensures.steps.tokens c.is_none.ensures
