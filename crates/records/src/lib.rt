@@ -2,14 +2,13 @@
 #![tactic(auto)]
 
 ghost use Rattle.std.specs.Prelude.{◌≡◌, ◌<◌, Some, None};
-ghost use Rattle.boundary.specs.Operators.{named};
 ghost use Rattle.records.specs.Blocks.{laid, laid_fields, laid_point, two_at, four_at, signed, fields_at, point_at};
 ghost use Rattle.records.specs.Examples.{Worked};
 ghost use Rattle.records.specs.Laws.{Fit, IsRecord, Parted, RecordsStand};
-ghost use Rattle.records.specs.Records.{five, kind_of, fields_of, point_of, block_of, bytes_of, used_fields, has_point, zero_past, is_origin, rest_zero, edit_of, numbered, record_of};
+ghost use Rattle.records.specs.Records.{five, kind_of, fields_of, point_of, block_of, bytes_of, used_fields, has_point, zero_past, rest_zero, edit_of, numbered, record_of};
 ghost use Rattle.records.specs.declared.Record.{Record};
 
-use boundary::{Edit, Point};
+use boundary::{Edit, Point, named};
 
 // An edit at its position in a batch, or the end of a batch with its count of edits.
 #[derive(Clone, Copy)]
@@ -50,13 +49,6 @@ struct Block {
 const ORIGIN: Point = Point { x: 0, y: 0, z: 0 };
 
 const CLOSING: u8 = 100;
-
-// The number that a field of an edit names.
-fn named(field: i32) -> u16
-    ensures { result ≡ named field }
-{
-    u16::try_from(field).unwrap_or(0)
-}
 
 fn five(a: u16, b: u16, c: u16, d: u16, e: u16) -> Fields
     ensures { result ≡ five a b c d e }
@@ -125,9 +117,7 @@ fn point_of(edit: Edit) -> Point
     ensures { result ≡ point_of edit }
 {
     match edit {
-        Edit::Mvfs { at, .. } => at,
-        Edit::Mev { at, .. } => at,
-        Edit::Move { at, .. } => at,
+        Edit::Mvfs { at, .. } | Edit::Mev { at, .. } | Edit::Move { at, .. } => at,
         _ => ORIGIN,
     }
 }
@@ -328,12 +318,6 @@ fn zero_past(count: u8, fields: Fields) -> bool
         && (count >= 5 || fields.e == 0)
 }
 
-fn is_origin(at: Point) -> bool
-    ensures { result ≡ is_origin at }
-{
-    at.x == 0 && at.y == 0 && at.z == 0
-}
-
 // Whether all that its kind does not use is zero.
 fn rest_zero(block: Block) -> bool
     ensures { result ≡ rest_zero block }
@@ -341,7 +325,7 @@ fn rest_zero(block: Block) -> bool
     block.spare == 0
         && block.gap == 0
         && zero_past(used_fields(block.kind), block.fields)
-        && (has_point(block.kind) || is_origin(block.at))
+        && (has_point(block.kind) || block.at == ORIGIN)
 }
 
 // The edit of a kind from 1 to 10.
