@@ -1,11 +1,11 @@
 // A record of the journal as a block of 32 bytes.
 #![tactic(auto)]
 
-ghost use Rattle.std.specs.Prelude.{◌≡◌, ◌<◌, Some, None};
-ghost use Rattle.records.specs.Blocks.{laid, laid_fields, laid_point, two_at, four_at, signed, fields_at, point_at};
+ghost use Rattle.std.specs.Prelude.{◌≡◌, ◌+◌, ◌<◌, ◌≤◌, ◌++◌, map, Some, None, length, take, drop, slice_range};
+ghost use Rattle.records.specs.Blocks.{two, laid, two_at, four_at, fields_at, point_at};
 ghost use Rattle.records.specs.Examples.{Worked};
 ghost use Rattle.records.specs.Laws.{Fit, IsRecord, Parted, RecordsStand};
-ghost use Rattle.records.specs.Records.{five, kind_of, fields_of, point_of, block_of, bytes_of, used_fields, has_point, zero_past, rest_zero, edit_of, numbered, record_of};
+ghost use Rattle.records.specs.Records.{kind_of, numbers_of, point_of, block_of, bytes_of, used_fields, has_point, zero_past, rest_zero, edit_of, numbered, record_of};
 ghost use Rattle.records.specs.declared.Record.{Record};
 
 use boundary::{Edit, Point, named};
@@ -24,16 +24,6 @@ pub enum Record {
     },
 }
 
-// The numbers of an edit, in the order of its operator.
-#[derive(Clone, Copy)]
-struct Fields {
-    a: u16,
-    b: u16,
-    c: u16,
-    d: u16,
-    e: u16,
-}
-
 // The parts of a block, whatever they say. In a record `spare` and `gap` are zero.
 #[derive(Clone, Copy)]
 struct Block {
@@ -41,7 +31,7 @@ struct Block {
     spare: u8,
     number: u32,
     position: u16,
-    fields: Fields,
+    fields: [u16; 5],
     gap: u16,
     at: Point,
 }
@@ -50,12 +40,7 @@ const ORIGIN: Point = Point { x: 0, y: 0, z: 0 };
 
 const CLOSING: u8 = 100;
 
-fn five(a: u16, b: u16, c: u16, d: u16, e: u16) -> Fields
-    ensures { result ≡ five a b c d e }
-{
-    Fields { a, b, c, d, e }
-}
-
+// The kind of the block of an edit.
 fn kind_of(edit: Edit) -> u8
     ensures { result ≡ kind_of edit }
 {
@@ -73,8 +58,9 @@ fn kind_of(edit: Edit) -> u8
     }
 }
 
-fn fields_of(edit: Edit) -> Fields
-    ensures { result ≡ fields_of edit }
+// The numbers of an edit, in the order of its operator, and then zeros.
+fn numbers_of(edit: Edit) -> [i32; 5]
+    ensures { result ≡ numbers_of edit }
 {
     match edit {
         Edit::Mvfs {
@@ -83,33 +69,27 @@ fn fields_of(edit: Edit) -> Fields
             outer,
             vertex,
             ..
-        } => five(named(shell), named(face), named(outer), named(vertex), 0),
-        Edit::Kvfs { shell } => five(named(shell), 0, 0, 0, 0),
+        } => [shell, face, outer, vertex, 0],
+        Edit::Kvfs { shell } => [shell, 0, 0, 0, 0],
         Edit::Mev {
             place,
             edge,
             vertex,
             ..
-        } => five(named(place), named(edge), named(vertex), 0, 0),
-        Edit::Kev { half } => five(named(half), 0, 0, 0, 0),
+        } => [place, edge, vertex, 0, 0],
+        Edit::Kev { half } => [half, 0, 0, 0, 0],
         Edit::Mef {
             from,
             to,
             edge,
             face,
             outer,
-        } => five(
-            named(from),
-            named(to),
-            named(edge),
-            named(face),
-            named(outer),
-        ),
-        Edit::Kef { half } => five(named(half), 0, 0, 0, 0),
-        Edit::Kemr { half, inner } => five(named(half), named(inner), 0, 0, 0),
-        Edit::Mekr { to, inner, edge } => five(named(to), named(inner), named(edge), 0, 0),
-        Edit::Kfmrh { kept, killed } => five(named(kept), named(killed), 0, 0, 0),
-        Edit::Move { vertex, .. } => five(named(vertex), 0, 0, 0, 0),
+        } => [from, to, edge, face, outer],
+        Edit::Kef { half } => [half, 0, 0, 0, 0],
+        Edit::Kemr { half, inner } => [half, inner, 0, 0, 0],
+        Edit::Mekr { to, inner, edge } => [to, inner, edge, 0, 0],
+        Edit::Kfmrh { kept, killed } => [kept, killed, 0, 0, 0],
+        Edit::Move { vertex, .. } => [vertex, 0, 0, 0, 0],
     }
 }
 
@@ -136,7 +116,7 @@ fn block_of(record: Record) -> Block
                 spare: 0,
                 number,
                 position,
-                fields: fields_of(edit),
+                fields: numbers_of(edit).map(named),
                 gap: 0,
                 at: point_of(edit),
             }
@@ -147,7 +127,7 @@ fn block_of(record: Record) -> Block
                 spare: 0,
                 number,
                 position: count,
-                fields: five(0, 0, 0, 0, 0),
+                fields: [0; 5],
                 gap: 0,
                 at: ORIGIN,
             }
@@ -155,70 +135,37 @@ fn block_of(record: Record) -> Block
     }
 }
 
-fn laid_fields(fields: Fields) -> [u8; 10]
-    ensures { result ≡ laid_fields fields }
+// Writes the bytes `part` from the byte `i` on.
+fn put(bytes: &mut [u8; 32], i: usize, part: &[u8])
+    requires { i + length part.now ≤ 32 }
+    ensures { bytes.new ≡ take i bytes.old ++ (part.now ++ drop (i + length part.now) bytes.old) }
 {
-    let a = fields.a.to_le_bytes();
-    let b = fields.b.to_le_bytes();
-    let c = fields.c.to_le_bytes();
-    let d = fields.d.to_le_bytes();
-    let e = fields.e.to_le_bytes();
-    [a[0], a[1], b[0], b[1], c[0], c[1], d[0], d[1], e[0], e[1]]
+    bytes[i..i + part.len()].copy_from_slice(part);
 }
 
-fn laid_point(at: Point) -> [u8; 12]
-    ensures { result ≡ laid_point at }
+// Each field in two bytes, low byte first.
+fn field_bytes(fields: [u16; 5]) -> [[u8; 2]; 5]
+    ensures { result ≡ map two fields }
 {
-    let x = at.x.to_le_bytes();
-    let y = at.y.to_le_bytes();
-    let z = at.z.to_le_bytes();
-    [
-        x[0], x[1], x[2], x[3], y[0], y[1], y[2], y[3], z[0], z[1], z[2], z[3],
-    ]
+    fields.map(u16::to_le_bytes)
 }
 
+// The bytes of the parts, each low byte first.
 fn laid(block: Block) -> [u8; 32]
     ensures { result ≡ laid block }
 {
-    let n = block.number.to_le_bytes();
-    let p = block.position.to_le_bytes();
-    let f = laid_fields(block.fields);
-    let g = block.gap.to_le_bytes();
-    let q = laid_point(block.at);
-    [
-        block.kind,
-        block.spare,
-        n[0],
-        n[1],
-        n[2],
-        n[3],
-        p[0],
-        p[1],
-        f[0],
-        f[1],
-        f[2],
-        f[3],
-        f[4],
-        f[5],
-        f[6],
-        f[7],
-        f[8],
-        f[9],
-        g[0],
-        g[1],
-        q[0],
-        q[1],
-        q[2],
-        q[3],
-        q[4],
-        q[5],
-        q[6],
-        q[7],
-        q[8],
-        q[9],
-        q[10],
-        q[11],
-    ]
+    let fields = field_bytes(block.fields);
+    let mut bytes = [0; 32];
+    bytes[0] = block.kind;
+    bytes[1] = block.spare;
+    put(&mut bytes, 2, &block.number.to_le_bytes());
+    put(&mut bytes, 6, &block.position.to_le_bytes());
+    put(&mut bytes, 8, fields.as_flattened());
+    put(&mut bytes, 18, &block.gap.to_le_bytes());
+    put(&mut bytes, 20, &block.at.x.to_le_bytes());
+    put(&mut bytes, 24, &block.at.y.to_le_bytes());
+    put(&mut bytes, 28, &block.at.z.to_le_bytes());
+    bytes
 }
 
 // The block of a record.
@@ -229,46 +176,48 @@ pub fn encode(record: Record) -> [u8; 32]
     laid(block_of(record))
 }
 
+// The `N` bytes from the byte `i` on.
+fn bytes_at<const N: usize>(bytes: &[u8; 32], i: usize) -> [u8; N]
+    requires { i + N ≤ 32 }
+    ensures { result ≡ slice_range bytes.now i (i + N) }
+{
+    bytes[i..i + N].try_into().unwrap()
+}
+
 fn two_at(bytes: &[u8; 32], i: usize) -> u16
     requires { i < 31 }
     ensures { result ≡ two_at bytes.now i }
 {
-    u16::from_le_bytes([bytes[i], bytes[i + 1]])
+    u16::from_le_bytes(bytes_at(bytes, i))
 }
 
 fn four_at(bytes: &[u8; 32], i: usize) -> u32
     requires { i < 29 }
     ensures { result ≡ four_at bytes.now i }
 {
-    u32::from_le_bytes([bytes[i], bytes[i + 1], bytes[i + 2], bytes[i + 3]])
+    u32::from_le_bytes(bytes_at(bytes, i))
 }
 
-fn signed_at(bytes: &[u8; 32], i: usize) -> i32
-    requires { i < 29 }
-    ensures { result ≡ signed (four_at bytes.now i) }
-{
-    i32::from_le_bytes([bytes[i], bytes[i + 1], bytes[i + 2], bytes[i + 3]])
-}
-
-fn fields_at(bytes: &[u8; 32]) -> Fields
+fn fields_at(bytes: &[u8; 32]) -> [u16; 5]
     ensures { result ≡ fields_at bytes.now }
 {
-    Fields {
-        a: two_at(bytes, 8),
-        b: two_at(bytes, 10),
-        c: two_at(bytes, 12),
-        d: two_at(bytes, 14),
-        e: two_at(bytes, 16),
-    }
+    [
+        two_at(bytes, 8),
+        two_at(bytes, 10),
+        two_at(bytes, 12),
+        two_at(bytes, 14),
+        two_at(bytes, 16),
+    ]
 }
 
 fn point_at(bytes: &[u8; 32]) -> Point
     ensures { result ≡ point_at bytes.now }
 {
+    let coordinate = |i| four_at(bytes, i).cast_signed();
     Point {
-        x: signed_at(bytes, 20),
-        y: signed_at(bytes, 24),
-        z: signed_at(bytes, 28),
+        x: coordinate(20),
+        y: coordinate(24),
+        z: coordinate(28),
     }
 }
 
@@ -287,7 +236,7 @@ fn parts(bytes: &[u8; 32]) -> Block
 }
 
 // How many of the fields a kind uses.
-fn used_fields(kind: u8) -> u8
+fn used_fields(kind: u8) -> usize
     ensures { result ≡ used_fields kind }
 {
     match kind {
@@ -304,18 +253,14 @@ fn used_fields(kind: u8) -> u8
 fn has_point(kind: u8) -> bool
     ensures { result ≡ has_point kind }
 {
-    kind == 1 || kind == 3 || kind == 10
+    matches!(kind, 1 | 3 | 10)
 }
 
 // Whether the fields past the first `count` are zero.
-fn zero_past(count: u8, fields: Fields) -> bool
+fn zero_past(count: usize, fields: [u16; 5]) -> bool
     ensures { result ≡ zero_past count fields }
 {
-    (count >= 1 || fields.a == 0)
-        && (count >= 2 || fields.b == 0)
-        && (count >= 3 || fields.c == 0)
-        && (count >= 4 || fields.d == 0)
-        && (count >= 5 || fields.e == 0)
+    fields.iter().skip(count).all(|field| *field == 0)
 }
 
 // Whether all that its kind does not use is zero.
@@ -329,14 +274,10 @@ fn rest_zero(block: Block) -> bool
 }
 
 // The edit of a kind from 1 to 10.
-fn edit_of(kind: u8, f: Fields, at: Point) -> Edit
-    ensures { result ≡ edit_of kind f at }
+fn edit_of(kind: u8, fields: [u16; 5], at: Point) -> Edit
+    ensures { result ≡ edit_of kind fields at }
 {
-    let a = i32::from(f.a);
-    let b = i32::from(f.b);
-    let c = i32::from(f.c);
-    let d = i32::from(f.d);
-    let e = i32::from(f.e);
+    let [a, b, c, d, e] = fields.map(i32::from);
     match kind {
         1 => Edit::Mvfs {
             shell: a,
@@ -376,7 +317,7 @@ fn edit_of(kind: u8, f: Fields, at: Point) -> Edit
 fn numbered(block: Block, first: u16, last: u16) -> bool
     ensures { result ≡ numbered first last block }
 {
-    1 <= block.number && first <= block.position && block.position <= last
+    1 <= block.number && (first..=last).contains(&block.position)
 }
 
 // The record that a block is, if it is one.
