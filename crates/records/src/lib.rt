@@ -102,39 +102,6 @@ fn point_of(edit: Edit) -> Point
     }
 }
 
-fn block_of(record: Record) -> Block
-    ensures { result ≡ block_of «record» }
-{
-    match record {
-        Record::Change {
-            number,
-            position,
-            edit,
-        } => {
-            Block {
-                kind: kind_of(edit),
-                spare: 0,
-                number,
-                position,
-                fields: numbers_of(edit).map(named),
-                gap: 0,
-                at: point_of(edit),
-            }
-        }
-        Record::Closing { number, count } => {
-            Block {
-                kind: CLOSING,
-                spare: 0,
-                number,
-                position: count,
-                fields: [0; 5],
-                gap: 0,
-                at: ORIGIN,
-            }
-        }
-    }
-}
-
 // Writes the bytes `part` from the byte `i` on.
 fn put(bytes: &mut [u8; 32], i: usize, part: &[u8])
     requires { i + length part.now ≤ 32 }
@@ -148,32 +115,6 @@ fn field_bytes(fields: [u16; 5]) -> [[u8; 2]; 5]
     ensures { result ≡ map two fields }
 {
     fields.map(u16::to_le_bytes)
-}
-
-// The bytes of the parts, each low byte first.
-fn laid(block: Block) -> [u8; 32]
-    ensures { result ≡ laid block }
-{
-    let fields = field_bytes(block.fields);
-    let mut bytes = [0; 32];
-    bytes[0] = block.kind;
-    bytes[1] = block.spare;
-    put(&mut bytes, 2, &block.number.to_le_bytes());
-    put(&mut bytes, 6, &block.position.to_le_bytes());
-    put(&mut bytes, 8, fields.as_flattened());
-    put(&mut bytes, 18, &block.gap.to_le_bytes());
-    put(&mut bytes, 20, &block.at.x.to_le_bytes());
-    put(&mut bytes, 24, &block.at.y.to_le_bytes());
-    put(&mut bytes, 28, &block.at.z.to_le_bytes());
-    bytes
-}
-
-// The block of a record.
-pub fn encode(record: Record) -> [u8; 32]
-    ensures is { result ≡ bytes_of «record» }
-    ensures back { Fit «record» → record_of result ≡ Some «record» }
-{
-    laid(block_of(record))
 }
 
 // The `N` bytes from the byte `i` on.
@@ -221,20 +162,6 @@ fn point_at(bytes: &[u8; 32]) -> Point
     }
 }
 
-fn parts(bytes: &[u8; 32]) -> Block
-    ensures { Parted bytes.now result }
-{
-    Block {
-        kind: bytes[0],
-        spare: bytes[1],
-        number: four_at(bytes, 2),
-        position: two_at(bytes, 6),
-        fields: fields_at(bytes),
-        gap: two_at(bytes, 18),
-        at: point_at(bytes),
-    }
-}
-
 // How many of the fields a kind uses.
 fn used_fields(kind: u8) -> usize
     ensures { result ≡ used_fields kind }
@@ -244,7 +171,7 @@ fn used_fields(kind: u8) -> usize
         3 | 8 => 3,
         5 => 5,
         7 | 9 => 2,
-        100 => 0,
+        CLOSING => 0,
         _ => 1,
     }
 }
@@ -263,61 +190,137 @@ fn zero_past(count: usize, fields: [u16; 5]) -> bool
     fields.iter().skip(count).all(|field| *field == 0)
 }
 
-// Whether all that its kind does not use is zero.
-fn rest_zero(block: Block) -> bool
-    ensures { result ≡ rest_zero block }
-{
-    block.spare == 0
-        && block.gap == 0
-        && zero_past(used_fields(block.kind), block.fields)
-        && (has_point(block.kind) || block.at == ORIGIN)
-}
+impl Block {
+    // The block of a record.
+    fn of(record: Record) -> Block
+        ensures { result ≡ block_of «record» }
+    {
+        match record {
+            Record::Change {
+                number,
+                position,
+                edit,
+            } => Block {
+                kind: kind_of(edit),
+                spare: 0,
+                number,
+                position,
+                fields: numbers_of(edit).map(named),
+                gap: 0,
+                at: point_of(edit),
+            },
+            Record::Closing { number, count } => {
+                Block {
+                    kind: CLOSING,
+                    spare: 0,
+                    number,
+                    position: count,
+                    fields: [0; 5],
+                    gap: 0,
+                    at: ORIGIN,
+                }
+            }
+        }
+    }
 
-// The edit of a kind from 1 to 10.
-fn edit_of(kind: u8, fields: [u16; 5], at: Point) -> Edit
-    ensures { result ≡ edit_of kind fields at }
-{
-    let [a, b, c, d, e] = fields.map(i32::from);
-    match kind {
-        1 => Edit::Mvfs {
-            shell: a,
-            face: b,
-            outer: c,
-            vertex: d,
-            at,
-        },
-        2 => Edit::Kvfs { shell: a },
-        3 => Edit::Mev {
-            place: a,
-            edge: b,
-            vertex: c,
-            at,
-        },
-        4 => Edit::Kev { half: a },
-        5 => Edit::Mef {
-            from: a,
-            to: b,
-            edge: c,
-            face: d,
-            outer: e,
-        },
-        6 => Edit::Kef { half: a },
-        7 => Edit::Kemr { half: a, inner: b },
-        8 => Edit::Mekr {
-            to: a,
-            inner: b,
-            edge: c,
-        },
-        9 => Edit::Kfmrh { kept: a, killed: b },
-        _ => Edit::Move { vertex: a, at },
+    // The block that the bytes say.
+    fn read(bytes: &[u8; 32]) -> Block
+        ensures { Parted bytes.now result }
+    {
+        Block {
+            kind: bytes[0],
+            spare: bytes[1],
+            number: four_at(bytes, 2),
+            position: two_at(bytes, 6),
+            fields: fields_at(bytes),
+            gap: two_at(bytes, 18),
+            at: point_at(bytes),
+        }
+    }
+
+    // The bytes of the parts, each low byte first.
+    fn bytes(self) -> [u8; 32]
+        ensures { result ≡ laid self }
+    {
+        let fields = field_bytes(self.fields);
+        let mut bytes = [0; 32];
+        bytes[0] = self.kind;
+        bytes[1] = self.spare;
+        put(&mut bytes, 2, &self.number.to_le_bytes());
+        put(&mut bytes, 6, &self.position.to_le_bytes());
+        put(&mut bytes, 8, fields.as_flattened());
+        put(&mut bytes, 18, &self.gap.to_le_bytes());
+        put(&mut bytes, 20, &self.at.x.to_le_bytes());
+        put(&mut bytes, 24, &self.at.y.to_le_bytes());
+        put(&mut bytes, 28, &self.at.z.to_le_bytes());
+        bytes
+    }
+
+    // Whether all that its kind does not use is zero.
+    fn rest_is_zero(self) -> bool
+        ensures { result ≡ rest_zero self }
+    {
+        self.spare == 0
+            && self.gap == 0
+            && zero_past(used_fields(self.kind), self.fields)
+            && (has_point(self.kind) || self.at == ORIGIN)
+    }
+
+    // Whether the block has a batch number, and a position from `first` to `last`.
+    fn is_numbered(self, first: u16, last: u16) -> bool
+        ensures { result ≡ numbered first last self }
+    {
+        1 <= self.number && (first..=last).contains(&self.position)
+    }
+
+    // The edit of the block, whose kind is from 1 to 10.
+    fn edit(self) -> Edit
+        ensures { result ≡ edit_of self.kind self.fields self.at }
+    {
+        let at = self.at;
+        let [a, b, c, d, e] = self.fields.map(i32::from);
+        match self.kind {
+            1 => Edit::Mvfs {
+                shell: a,
+                face: b,
+                outer: c,
+                vertex: d,
+                at,
+            },
+            2 => Edit::Kvfs { shell: a },
+            3 => Edit::Mev {
+                place: a,
+                edge: b,
+                vertex: c,
+                at,
+            },
+            4 => Edit::Kev { half: a },
+            5 => Edit::Mef {
+                from: a,
+                to: b,
+                edge: c,
+                face: d,
+                outer: e,
+            },
+            6 => Edit::Kef { half: a },
+            7 => Edit::Kemr { half: a, inner: b },
+            8 => Edit::Mekr {
+                to: a,
+                inner: b,
+                edge: c,
+            },
+            9 => Edit::Kfmrh { kept: a, killed: b },
+            _ => Edit::Move { vertex: a, at },
+        }
     }
 }
 
-// Whether the block has a batch number, and a position from `first` to `last`.
-fn numbered(block: Block, first: u16, last: u16) -> bool
-    ensures { result ≡ numbered first last block }
+// The block of a record.
+pub fn encode(record: Record) -> [u8; 32]
+    ensures is { result ≡ bytes_of «record» }
+    ensures back { Fit «record» → record_of result ≡ Some «record» }
 {
-    1 <= block.number && (first..=last).contains(&block.position)
+    Block::of(record).bytes()
 }
 
 // The record that a block is, if it is one.
@@ -325,16 +328,16 @@ pub fn decode(bytes: &[u8; 32]) -> Option<Record>
     ensures is { result ≡ record_of bytes.now }
     ensures back { elim result [ None ↦ Unit {0} | Some x ↦ IsRecord bytes.now x ] }
 {
-    let block = parts(bytes);
+    let block = Block::read(bytes);
     match block.kind {
-        1..=10 if numbered(block, 0, 15) && rest_zero(block) => {
+        1..=10 if block.is_numbered(0, 15) && block.rest_is_zero() => {
             Some(Record::Change {
                 number: block.number,
                 position: block.position,
-                edit: edit_of(block.kind, block.fields, block.at),
+                edit: block.edit(),
             })
         }
-        100 if numbered(block, 1, 16) && rest_zero(block) => {
+        CLOSING if block.is_numbered(1, 16) && block.rest_is_zero() => {
             Some(Record::Closing {
                 number: block.number,
                 count: block.position,

@@ -2,11 +2,11 @@ use Rattle.std.proofs.Common.{rules, ◌≡◌, ◌∷◌, replicate, ◌∙◌,
 use Rattle.std.specs.List.{flat_map}
 use Rattle.records.specs.Blocks.{four, complement}
 use Rattle.records.proofs.Bytes.{step, flattened, put_laid}
-use Rattle.records.proofs.laid.Goals as goal
+use Rattle.records.proofs.Block.bytes.Goals as goal
 
 pub returns : goal.returns
 returns c =
-    let b = c.args.block in
+    let b = c.args.self in
     let fields = c.as_flattened.ensures.value ∙ ap (flat_map (λ x. x)) c.field_bytes-fields.ensures ∙ flattened b.fields in
     let n : c.to_le_bytes.result ≡ four b.number = c.to_le_bytes.ensures in
     let x : c.to_le_bytes-4.result ≡ four (complement b.at.x) = search rules in
