@@ -76,14 +76,10 @@ left_more f n c h g k lt apart on =
     let one : n - c ≡ suc (n - (c + 1)) = omega arith in
     ap (λ m. left f m h k) one ∙ left_suc f (n - (c + 1)) h k apart ∙ ap (λ x. (32 ∷ decimal h) ++ left f (n - (c + 1)) x k) (sym on)
 
-ring_begins : (f : ℕ → ℕ) (n h : ℕ) → spaced (map decimal (h ∷ run f n (f h) h)) ≡ (32 ∷ decimal h) ++ left f n (f h) h
-unfolding left run
-ring_begins f n h = refl
-
 -- its first half-edge, and then the others
 pub ring_is : (b : Boundary) (h : ℕ) → (32 ∷ decimal h) ++ left (next b) 383 (next b h) h ≡ spaced (map decimal (ring b h))
-unfolding ring
-ring_is b h = sym (ring_begins (next b) 383 h)
+unfolding ring left
+ring_is b h = refl
 
 -- the words and then the line feed are the words to the end of the line
 pub to_end : (ws : List (List ℕ)) → spaced ws ++ (10 ∷ []) ≡ words ws

@@ -1,14 +1,15 @@
 -- An edit and its kind, fields and point, there and back.
-use Rattle.std.proofs.Common.{◌≡◌, ℕ, ◌^◌, ◌<◌, ◌≤◌, Bool, true, false, cond, ◌&&◌, ◌||◌, eqb, ltb, leb, ◌⊎◌, ℤ, pos, negsuc, sym, refl, ap, subst, inl, inr, arith, lit<, lit≤, w32, SFits}
+use Rattle.std.proofs.Common.{◌≡◌, ℕ, ◌-◌, ◌^◌, ◌<◌, ◌≤◌, List, [], ◌∷◌, ◌++◌, length, map, take, drop, replicate, get_or, Bool, true, false, cond, ◌&&◌, ◌||◌, eqb, ltb, leb, ◌⊎◌, ℤ, pos, negsuc, sym, refl, ap, ◌∙◌, subst, inl, inr, arith, lit<, lit≤, w32, SFits}
+use Rattle.std.specs.List.{list_all, AllByRecursion as All}
+use Rattle.std.proofs.lemmas.List.{length-drop, take-append-drop}
 use Rattle.std.proofs.lemmas.Bool.{and_parts, cases_eq, cases_Bool, or_cases, eqb-true, ltb-true, lt-ltb, false≢true}
 use Rattle.boundary.specs.declared.Point.{Point}
 use Rattle.boundary.specs.declared.Edit.{Edit}
 use Rattle.boundary.specs.declared.Edit.TheVariants.{Mvfs, Kvfs, Mev, Kev, Mef, Kef, Kemr, Mekr, Kfmrh, Move}
 use Rattle.boundary.specs.Operators.{named}
 use Rattle.boundary.specs.Refusals.{below, is_place, is_coordinate, is_point, in_range, is_shell, is_face, is_loop, is_edge, is_vertex, is_half}
-use Rattle.records.specs.declared.Fields.{Fields}
-use Rattle.records.specs.Records.{five, origin, kind_of, fields_of, point_of, edit_of, used_fields, has_point, zero_past, is_zero, is_origin}
-use Rattle.records.proofs.Bytes.{Small, Near}
+use Rattle.records.specs.Records.{origin, kind_of, numbers_of, fields_of, point_of, edit_of, used_fields, has_point, zero_past, is_zero, is_origin}
+use Rattle.records.proofs.Bytes.{Small, Near, five, five_is, small}
 
 -- a number from 1 to 10 is one of them
 each_kind : (P : ℕ → Type 0) → P 1 → P 2 → P 3 → P 4 → P 5 → P 6 → P 7 → P 8 → P 9 → P 10 → (k : ℕ) → 1 ≤ k → k ≤ 10 → P k
@@ -28,24 +29,26 @@ named_bound (pos n) = elim (cases_Bool (ltb n 65536)) [
   | inr e ↦ rw e (omega arith)
 ]
 
--- the fields past the first n made zero
-abbrev first : ℕ → Fields → Fields
-first n f = five (cond (leb 1 n) f.a 0) (cond (leb 2 n) f.b 0) (cond (leb 3 n) f.c 0) (cond (leb 4 n) f.d 0) (cond (leb 5 n) f.e 0)
-
 same_five : {a a' b b' c c' d d' e e' : ℕ} → a ≡ a' → b ≡ b' → c ≡ c' → d ≡ d' → e ≡ e' → five a b c d e ≡ five a' b' c' d' e'
 same_five p q r s t = cc
 
-pub first_same : (n : ℕ) (f : Fields) → zero_past n f ≡ true → first n f ≡ f
-first_same n f h =
-    let p = and_parts (leb 1 n || eqb f.a 0) _ h in
-    let q = and_parts (leb 2 n || eqb f.b 0) _ p.1 in
-    let r = and_parts (leb 3 n || eqb f.c 0) _ q.1 in
-    let s = and_parts (leb 4 n || eqb f.d 0) _ r.1 in
-    same_five (kept (leb 1 n) f.a p.0) (kept (leb 2 n) f.b q.0) (kept (leb 3 n) f.c r.0) (kept (leb 4 n) f.d s.0) (kept (leb 5 n) f.e s.1)
-  where
-    kept : (t : Bool) (x : ℕ) → (t || eqb x 0) ≡ true → cond t x 0 ≡ x
-    kept true x h = refl
-    kept false x h = sym (eqb-true x 0 h)
+-- the fields past the first n made zero
+abbrev first : ℕ → List ℕ → List ℕ
+first n f = take n f ++ replicate (length f - n) 0
+
+zeros : (xs : List ℕ) → list_all (λ x. eqb x 0) xs ≡ true → replicate (length xs) 0 ≡ xs
+zeros [] h = refl
+zeros (x ∷ xs) h =
+    let p = and_parts (eqb x 0) _ h in
+    let zero_first : 0 ≡ x = sym (eqb-true x 0 p.0) in
+    let others = zeros xs p.1 in
+    cc
+
+pub first_same : (n : ℕ) (f : List ℕ) → zero_past n f ≡ true → first n f ≡ f
+first_same n f h = ap (λ l. take n f ++ l) (ap (λ m. replicate m 0) (sym (length-drop n f)) ∙ zeros (drop n f) h) ∙ take-append-drop n f
+
+pub all_zero : (f : List ℕ) → length f ≡ 5 → zero_past 0 f ≡ true → five 0 0 0 0 0 ≡ f
+all_zero f long h = ap (λ m. replicate m 0) (sym long) ∙ zeros f h
 
 abbrev three : ℤ → ℤ → ℤ → Point
 three x y z = record { x = x; y = y; z = z }
@@ -67,36 +70,41 @@ pub point_same : (t : Bool) (p : Point) → (t || is_origin p) ≡ true → cond
 point_same true p h = refl
 point_same false p h = origin_same p h
 
--- the kind, the fields and the point of the edit that they make
-module _ (f : Fields) (q : Point) where
+-- the kind, the point and the fields of the edit that they make
+module _ (f : List ℕ) (q : Point) where
   pub kind_back : (k : ℕ) → 1 ≤ k → k ≤ 10 → kind_of (edit_of k f q) ≡ k
   kind_back = each_kind (λ k. kind_of (edit_of k f q) ≡ k) refl refl refl refl refl refl refl refl refl refl
 
   pub point_back : (k : ℕ) → 1 ≤ k → k ≤ 10 → point_of (edit_of k f q) ≡ cond (has_point k) q origin
   point_back = each_kind (λ k. point_of (edit_of k f q) ≡ cond (has_point k) q origin) refl refl refl refl refl refl refl refl refl refl
 
-  pub fields_back : Small f → (k : ℕ) → 1 ≤ k → k ≤ 10 → fields_of (edit_of k f q) ≡ first (used_fields k) f
-  fields_back s = each_kind (λ k. fields_of (edit_of k f q) ≡ first (used_fields k) f)
-      (same_five a b c d refl) one (same_five a b c refl refl) one (same_five a b c d e)
-      one (same_five a b refl refl refl) (same_five a b c refl refl) (same_five a b refl refl refl) one
-    where
-      a : named (pos f.a) ≡ f.a
-      a = named_small f.a s.a
+five_back : (q : Point) (a b c d e : ℕ) → a < 2 ^ 16 → b < 2 ^ 16 → c < 2 ^ 16 → d < 2 ^ 16 → e < 2 ^ 16 → (k : ℕ) → 1 ≤ k → k ≤ 10 → fields_of (edit_of k (five a b c d e) q) ≡ first (used_fields k) (five a b c d e)
+five_back q a b c d e ha hb hc hd he = each_kind (λ k. fields_of (edit_of k (five a b c d e) q) ≡ first (used_fields k) (five a b c d e))
+    (same_five na nb nc nd refl) one (same_five na nb nc refl refl) one (same_five na nb nc nd ne)
+    one (same_five na nb refl refl refl) (same_five na nb nc refl refl) (same_five na nb refl refl refl) one
+  where
+    na : named (pos a) ≡ a
+    na = named_small a ha
 
-      b : named (pos f.b) ≡ f.b
-      b = named_small f.b s.b
+    nb : named (pos b) ≡ b
+    nb = named_small b hb
 
-      c : named (pos f.c) ≡ f.c
-      c = named_small f.c s.c
+    nc : named (pos c) ≡ c
+    nc = named_small c hc
 
-      d : named (pos f.d) ≡ f.d
-      d = named_small f.d s.d
+    nd : named (pos d) ≡ d
+    nd = named_small d hd
 
-      e : named (pos f.e) ≡ f.e
-      e = named_small f.e s.e
+    ne : named (pos e) ≡ e
+    ne = named_small e he
 
-      one : five (named (pos f.a)) 0 0 0 0 ≡ five f.a 0 0 0 0
-      one = same_five a refl refl refl refl
+    one : five (named (pos a)) 0 0 0 0 ≡ five a 0 0 0 0
+    one = same_five na refl refl refl refl
+
+pub fields_back : (f : List ℕ) (q : Point) → Small f → (k : ℕ) → 1 ≤ k → k ≤ 10 → fields_of (edit_of k f q) ≡ first (used_fields k) f
+fields_back f q s k lo hi =
+    subst (λ l. fields_of (edit_of k l q) ≡ first (used_fields k) l) (sym (five_is f s.long))
+    (five_back q (get_or f 0 0) (get_or f 1 0) (get_or f 2 0) (get_or f 3 0) (get_or f 4 0) (s.each 0) (s.each 1) (s.each 2) (s.each 3) (s.each 4) k lo hi)
 
 -- a field in range is the number that it names
 below_back : (m : ℕ) (z : ℤ) → m ≤ 65536 → below m z ≡ true → pos (named z) ≡ z
@@ -178,20 +186,24 @@ kind_bounds (Mekr a c k) = (lit≤ tt, lit≤ tt)
 kind_bounds (Kfmrh f g) = (lit≤ tt, lit≤ tt)
 kind_bounds (Move v p) = (lit≤ tt, lit≤ tt)
 
-small_five : {a b c d e : ℕ} → a < 2 ^ 16 → b < 2 ^ 16 → c < 2 ^ 16 → d < 2 ^ 16 → e < 2 ^ 16 → Small (five a b c d e)
-small_five p q r s t = record { a = p; b = q; c = r; d = s; e = t }
+named_all : (zs : List ℤ) → All (λ x. x < 2 ^ 16) (map named zs)
+named_all [] = tt
+named_all (z ∷ zs) = (named_bound z, named_all zs)
+
+pub five_fields : (e : Edit) → length (fields_of e) ≡ 5
+five_fields (Mvfs a f l v p) = refl
+five_fields (Kvfs a) = refl
+five_fields (Mev a k v p) = refl
+five_fields (Kev h) = refl
+five_fields (Mef h j k f l) = refl
+five_fields (Kef h) = refl
+five_fields (Kemr h l) = refl
+five_fields (Mekr a c k) = refl
+five_fields (Kfmrh f g) = refl
+five_fields (Move v p) = refl
 
 pub fields_small : (e : Edit) → Small (fields_of e)
-fields_small (Mvfs a f l v p) = small_five (named_bound a) (named_bound f) (named_bound l) (named_bound v) (lit< tt)
-fields_small (Kvfs a) = small_five (named_bound a) (lit< tt) (lit< tt) (lit< tt) (lit< tt)
-fields_small (Mev a k v p) = small_five (named_bound a) (named_bound k) (named_bound v) (lit< tt) (lit< tt)
-fields_small (Kev h) = small_five (named_bound h) (lit< tt) (lit< tt) (lit< tt) (lit< tt)
-fields_small (Mef h j k f l) = small_five (named_bound h) (named_bound j) (named_bound k) (named_bound f) (named_bound l)
-fields_small (Kef h) = small_five (named_bound h) (lit< tt) (lit< tt) (lit< tt) (lit< tt)
-fields_small (Kemr h l) = small_five (named_bound h) (named_bound l) (lit< tt) (lit< tt) (lit< tt)
-fields_small (Mekr a c k) = small_five (named_bound a) (named_bound c) (named_bound k) (lit< tt) (lit< tt)
-fields_small (Kfmrh f g) = small_five (named_bound f) (named_bound g) (lit< tt) (lit< tt) (lit< tt)
-fields_small (Move v p) = small_five (named_bound v) (lit< tt) (lit< tt) (lit< tt) (lit< tt)
+fields_small e = small (fields_of e) (five_fields e) (named_all (numbers_of e))
 
 point_near : (p : Point) → is_point p ≡ true → Near p
 point_near p h =

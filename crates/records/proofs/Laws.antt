@@ -4,17 +4,16 @@ use Rattle.std.proofs.lemmas.Bool.{and_parts, eqb-true, leb-true, le-leb}
 use Rattle.boundary.specs.declared.Point.{Point}
 use Rattle.boundary.specs.declared.Edit.{Edit}
 use Rattle.boundary.specs.declared.Edit.TheVariants.{Mvfs, Kvfs, Mev, Kev, Mef, Kef, Kemr, Mekr, Kfmrh, Move}
-use Rattle.records.specs.declared.Fields.{Fields}
 use Rattle.records.specs.declared.Block.{Block}
 use Rattle.records.specs.declared.Record.{Record}
 use Rattle.records.specs.declared.Record.TheVariants.{Change, Closing}
 use Rattle.records.specs.Blocks.{laid, parts, two_at, four_at, fields_at, point_at}
 use Rattle.records.specs.Laws.{Fit, Numbered, IsBlock, Parted, RecordsStand}
 use Rattle.records.specs.Records.{block_of, bytes_of, used_fields, has_point, zero_past, is_origin, rest_zero, numbered, edit_of, is_change, is_closing, meaning, record_of}
-use Rattle.records.proofs.Bytes.{Small, laid_parts, parts_laid, laid_block}
+use Rattle.records.proofs.Bytes.{Small, small, laid_parts, parts_laid, laid_block}
 use Rattle.records.proofs.Bytes.{fields_small as read_small}
 use Rattle.records.proofs.Decoding.{meant, change_meant, closing_meant}
-use Rattle.records.proofs.Edits.{kind_back, fields_back, point_back, first_same, point_same, edit_back, kind_bounds, fields_small, edit_near, origin_near}
+use Rattle.records.proofs.Edits.{kind_back, fields_back, point_back, first_same, all_zero, point_same, edit_back, kind_bounds, five_fields, fields_small, edit_near, origin_near}
 
 rest_of : (n p : ℕ) (e : Edit) → rest_zero (block_of (Change n p e)) ≡ true
 rest_of n p (Mvfs a f l v q) = refl
@@ -38,14 +37,14 @@ round (Change n p e) h =
     ∙ change_meant (block_of (Change n p e)) (kind_bounds e).0 (kind_bounds e).1 (within 0 15 (block_of (Change n p e)) h.0.0 (omega arith) (omega (arith, h.0.1))) (rest_of n p e)
     ∙ ap (λ x. Some (Change n p x)) (edit_back e h.2)
 round (Closing n c) h =
-    ap meaning (parts_laid (block_of (Closing n c)) (record { number = h.1; position = omega (arith, h.0.2); fields = record { a = lit< tt; b = lit< tt; c = lit< tt; d = lit< tt; e = lit< tt }; gap = lit< tt; at = origin_near }))
+    ap meaning (parts_laid (block_of (Closing n c)) (record { number = h.1; position = omega (arith, h.0.2); fields = small (block_of (Closing n c)).fields refl (lit< tt, (lit< tt, (lit< tt, (lit< tt, (lit< tt, tt))))); gap = lit< tt; at = origin_near }))
     ∙ closing_meant (block_of (Closing n c)) refl (within 1 16 (block_of (Closing n c)) h.0.0 h.0.1 h.0.2) refl
 
 -- the parts of a block, put together
-abbrev whole : ℕ → ℕ → ℕ → ℕ → Fields → ℕ → Point → Block
+abbrev whole : ℕ → ℕ → ℕ → ℕ → List ℕ → ℕ → Point → Block
 whole k s n p f g q = record { kind = k; spare = s; number = n; position = p; fields = f; gap = g; at = q }
 
-same_block : {k k' s s' : ℕ} (n p : ℕ) {f f' : Fields} {g g' : ℕ} {q q' : Point} → k ≡ k' → s ≡ s' → f ≡ f' → g ≡ g' → q ≡ q' → whole k s n p f g q ≡ whole k' s' n p f' g' q'
+same_block : {k k' s s' : ℕ} (n p : ℕ) {f f' : List ℕ} {g g' : ℕ} {q q' : Point} → k ≡ k' → s ≡ s' → f ≡ f' → g ≡ g' → q ≡ q' → whole k s n p f g q ≡ whole k' s' n p f' g' q'
 same_block n p ek es ef eg eq = cc
 
 -- what a block has whose rest is zero
@@ -73,13 +72,13 @@ change_back b s h =
     (fields_back b.fields b.at s b.kind lo hi ∙ first_same (used_fields b.kind) b.fields z.fields)
     z.gap (point_back b.fields b.at b.kind lo hi ∙ point_same (has_point b.kind) b.at z.at)
 
-closing_back : (b : Block) → is_closing b ≡ true → block_of (Closing b.number b.position) ≡ b
-closing_back b h =
+closing_back : (b : Block) → Small b.fields → is_closing b ≡ true → block_of (Closing b.number b.position) ≡ b
+closing_back b s h =
     let p = and_parts (eqb b.kind 100) _ h in
     let k : b.kind ≡ 100 = eqb-true b.kind 100 p.0 in
     let z = rest b (and_parts (numbered 1 16 b) (rest_zero b) p.1).1 in
     same_block b.number b.position (sym k) z.spare
-    (first_same 0 b.fields (ap (λ j. zero_past (used_fields j) b.fields) (sym k) ∙ z.fields))
+    (all_zero b.fields s.long (ap (λ j. zero_past (used_fields j) b.fields) (sym k) ∙ z.fields))
     z.gap (point_same false b.at (ap (λ j. has_point j || is_origin b.at) (sym k) ∙ z.at))
 
 -- a block that means a record passes its test
@@ -94,7 +93,7 @@ of_block b r e = meant_by (is_closing b) (is_change b) _ _ r e
 pub exact : (bs : List ℕ) (r : Record) → IsBlock bs → record_of bs ≡ Some r → bs ≡ bytes_of r
 unfolding record_of bytes_of
 exact bs r k e = sym (ap laid (elim (of_block (parts bs) r e) [
-  | inl c ↦ ap block_of (sym c.1) ∙ closing_back (parts bs) c.0
+  | inl c ↦ ap block_of (sym c.1) ∙ closing_back (parts bs) (read_small bs k) c.0
   | inr c ↦ ap block_of (sym c.1) ∙ change_back (parts bs) (read_small bs k) c.0
 ]) ∙ laid_parts bs k)
 
@@ -121,8 +120,8 @@ is_numbered bs r e = elim (of_block (parts bs) r e) [
 
 pub whole_block : (r : Record) → IsBlock (bytes_of r)
 unfolding bytes_of
-whole_block (Change n p e) = laid_block (block_of (Change n p e)) (let h = (kind_bounds e).1 in omega arith) (lit< tt)
-whole_block (Closing n c) = laid_block (block_of (Closing n c)) (lit< tt) (lit< tt)
+whole_block (Change n p e) = laid_block (block_of (Change n p e)) (let h = (kind_bounds e).1 in omega arith) (lit< tt) (five_fields e)
+whole_block (Closing n c) = laid_block (block_of (Closing n c)) (lit< tt) (lit< tt) refl
 
 pub stand : RecordsStand
 stand = record {
@@ -141,9 +140,9 @@ parted bs b k e = record {
   back = λ r f. record { same = exact bs r k f; numbered = is_numbered bs r f };
 }
 
-pub parted_by : (bs : List ℕ) {n p g : ℕ} {f : Fields} {q : Point} → IsBlock bs → n ≡ four_at bs 2 → p ≡ two_at bs 6 → f ≡ fields_at bs → g ≡ two_at bs 18 → q ≡ point_at bs → Parted bs (whole (get_or bs 0 0) (get_or bs 1 0) n p f g q)
+pub parted_by : (bs : List ℕ) {n p g : ℕ} {f : List ℕ} {q : Point} → IsBlock bs → n ≡ four_at bs 2 → p ≡ two_at bs 6 → f ≡ fields_at bs → g ≡ two_at bs 18 → q ≡ point_at bs → Parted bs (whole (get_or bs 0 0) (get_or bs 1 0) n p f g q)
 unfolding parts
 parted_by bs k en ep ef eg eq = parted bs _ k (same_parts en ep ef eg eq)
   where
-    same_parts : {n n' p p' g g' : ℕ} {f f' : Fields} {q q' : Point} → n ≡ n' → p ≡ p' → f ≡ f' → g ≡ g' → q ≡ q' → whole (get_or bs 0 0) (get_or bs 1 0) n p f g q ≡ whole (get_or bs 0 0) (get_or bs 1 0) n' p' f' g' q'
+    same_parts : {n n' p p' g g' : ℕ} {f f' : List ℕ} {q q' : Point} → n ≡ n' → p ≡ p' → f ≡ f' → g ≡ g' → q ≡ q' → whole (get_or bs 0 0) (get_or bs 1 0) n p f g q ≡ whole (get_or bs 0 0) (get_or bs 1 0) n' p' f' g' q'
     same_parts a b c d e = cc

@@ -1,11 +1,11 @@
--- A block of 32 bytes and its parts, low byte first: byte 0 kind, byte 1 spare, bytes 2 to 5 number, 6 and 7 position, 8 to 17 the fields a to e, 18 and 19 gap, 20 to 31 the coordinates x y z.
+-- A block of 32 bytes and its parts, low byte first: byte 0 kind, byte 1 spare, bytes 2 to 5 number, 6 and 7 position, 8 to 17 the five fields, 18 and 19 gap, 20 to 31 the coordinates x y z.
 --     laid b    the bytes of the parts b
 --     parts bs  the parts that the bytes bs say
 use Rattle.std.specs.Prelude.{ℕ, ◌+◌, ◌*◌, ◌/◌, ◌%◌, List, [], ◌∷◌, ◌++◌, ℤ, slice_index}
+use Rattle.std.specs.List.{flat_map}
 use Rattle.std.specs.Int.{w32}
 use Rattle.std.proofs.Common.{of_z, to_z}
 use Rattle.boundary.specs.declared.Point.{Point}
-use Rattle.records.specs.declared.Fields.{Fields}
 use Rattle.records.specs.declared.Block.{Block}
 
 -- a number in two bytes
@@ -24,8 +24,8 @@ complement z = of_z w32 z
 abbrev pub signed : ℕ → ℤ
 signed n = to_z w32 n
 
-abbrev pub laid_fields : Fields → List ℕ
-laid_fields f = two f.a ++ (two f.b ++ (two f.c ++ (two f.d ++ two f.e)))
+abbrev pub laid_fields : List ℕ → List ℕ
+laid_fields f = flat_map two f
 
 abbrev pub laid_point : Point → List ℕ
 laid_point p = four (complement p.x) ++ (four (complement p.y) ++ four (complement p.z))
@@ -41,8 +41,8 @@ two_at bs i = slice_index bs i + slice_index bs (i + 1) * 256
 abbrev pub four_at : List ℕ → ℕ → ℕ
 four_at bs i = slice_index bs i + slice_index bs (i + 1) * 256 + slice_index bs (i + 2) * 65536 + slice_index bs (i + 3) * 16777216
 
-abbrev pub fields_at : List ℕ → Fields
-fields_at bs = record { a = two_at bs 8; b = two_at bs 10; c = two_at bs 12; d = two_at bs 14; e = two_at bs 16 }
+abbrev pub fields_at : List ℕ → List ℕ
+fields_at bs = two_at bs 8 ∷ two_at bs 10 ∷ two_at bs 12 ∷ two_at bs 14 ∷ two_at bs 16 ∷ []
 
 abbrev pub point_at : List ℕ → Point
 point_at bs = record { x = signed (four_at bs 20); y = signed (four_at bs 24); z = signed (four_at bs 28) }

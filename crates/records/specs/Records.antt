@@ -1,19 +1,16 @@
 -- A record of the journal as a block: kinds 1 to 10 are the operators, 100 closes a batch, and what a kind does not use is zero.
 --     bytes_of r    the 32 bytes of the record r
 --     record_of bs  the record that the bytes bs are, if they are one
-use Rattle.std.specs.Prelude.{ℕ, Bool, false, cond, ◌&&◌, ◌||◌, List, ℤ, pos, negsuc, Some, None, Option, ◌==◌, nat_le}
+use Rattle.std.specs.Prelude.{ℕ, Bool, false, cond, ◌&&◌, ◌||◌, List, [], ◌∷◌, map, drop, ℤ, pos, negsuc, Some, None, Option, ◌==◌, nat_le, slice_index}
+use Rattle.std.specs.List.{list_all}
 use Rattle.boundary.specs.declared.Point.{Point}
 use Rattle.boundary.specs.declared.Edit.{Edit}
 use Rattle.boundary.specs.declared.Edit.TheVariants.{Mvfs, Kvfs, Mev, Kev, Mef, Kef, Kemr, Mekr, Kfmrh, Move}
 use Rattle.boundary.specs.Operators.{named}
-use Rattle.records.specs.declared.Fields.{Fields}
 use Rattle.records.specs.declared.Block.{Block}
 use Rattle.records.specs.declared.Record.{Record}
 use Rattle.records.specs.declared.Record.TheVariants.{Change, Closing}
 use Rattle.records.specs.Blocks.{laid, parts}
-
-abbrev pub five : ℕ → ℕ → ℕ → ℕ → ℕ → Fields
-five a b c d e = record { a = a; b = b; c = c; d = d; e = e }
 
 -- the point whose coordinates are zero
 abbrev pub origin : Point
@@ -31,18 +28,21 @@ kind_of (Mekr a c k) = 8
 kind_of (Kfmrh f g) = 9
 kind_of (Move v p) = 10
 
--- the numbers of an edit, in their order
-abbrev pub fields_of : Edit → Fields
-fields_of (Mvfs a f l v p) = five (named a) (named f) (named l) (named v) 0
-fields_of (Kvfs a) = five (named a) 0 0 0 0
-fields_of (Mev a k v p) = five (named a) (named k) (named v) 0 0
-fields_of (Kev h) = five (named h) 0 0 0 0
-fields_of (Mef h j k f l) = five (named h) (named j) (named k) (named f) (named l)
-fields_of (Kef h) = five (named h) 0 0 0 0
-fields_of (Kemr h l) = five (named h) (named l) 0 0 0
-fields_of (Mekr a c k) = five (named a) (named c) (named k) 0 0
-fields_of (Kfmrh f g) = five (named f) (named g) 0 0 0
-fields_of (Move v p) = five (named v) 0 0 0 0
+-- the numbers of an edit, in their order, and then zeros
+abbrev pub numbers_of : Edit → List ℤ
+numbers_of (Mvfs a f l v p) = a ∷ f ∷ l ∷ v ∷ pos 0 ∷ []
+numbers_of (Kvfs a) = a ∷ pos 0 ∷ pos 0 ∷ pos 0 ∷ pos 0 ∷ []
+numbers_of (Mev a k v p) = a ∷ k ∷ v ∷ pos 0 ∷ pos 0 ∷ []
+numbers_of (Kev h) = h ∷ pos 0 ∷ pos 0 ∷ pos 0 ∷ pos 0 ∷ []
+numbers_of (Mef h j k f l) = h ∷ j ∷ k ∷ f ∷ l ∷ []
+numbers_of (Kef h) = h ∷ pos 0 ∷ pos 0 ∷ pos 0 ∷ pos 0 ∷ []
+numbers_of (Kemr h l) = h ∷ l ∷ pos 0 ∷ pos 0 ∷ pos 0 ∷ []
+numbers_of (Mekr a c k) = a ∷ c ∷ k ∷ pos 0 ∷ pos 0 ∷ []
+numbers_of (Kfmrh f g) = f ∷ g ∷ pos 0 ∷ pos 0 ∷ pos 0 ∷ []
+numbers_of (Move v p) = v ∷ pos 0 ∷ pos 0 ∷ pos 0 ∷ pos 0 ∷ []
+
+abbrev pub fields_of : Edit → List ℕ
+fields_of e = map named (numbers_of e)
 
 abbrev pub point_of : Edit → Point
 point_of (Mvfs a f l v p) = p
@@ -58,7 +58,7 @@ point_of (Move v p) = p
 
 abbrev pub block_of : Record → Block
 block_of (Change n p e) = record { kind = kind_of e; spare = 0; number = n; position = p; fields = fields_of e; gap = 0; at = point_of e }
-block_of (Closing n c) = record { kind = 100; spare = 0; number = n; position = c; fields = five 0 0 0 0 0; gap = 0; at = origin }
+block_of (Closing n c) = record { kind = 100; spare = 0; number = n; position = c; fields = 0 ∷ 0 ∷ 0 ∷ 0 ∷ 0 ∷ []; gap = 0; at = origin }
 
 unfoldable pub bytes_of : Record → List ℕ
 bytes_of r = laid (block_of r)
@@ -77,13 +77,8 @@ abbrev pub has_point : ℕ → Bool
 has_point k = k == 1 || (k == 3 || k == 10)
 
 -- the fields past the first n are zero
-abbrev pub zero_past : ℕ → Fields → Bool
-zero_past n f =
-    (nat_le 1 n || f.a == 0)
-    && ((nat_le 2 n || f.b == 0)
-    && ((nat_le 3 n || f.c == 0)
-    && ((nat_le 4 n || f.d == 0)
-    && (nat_le 5 n || f.e == 0))))
+abbrev pub zero_past : ℕ → List ℕ → Bool
+zero_past n f = list_all (λ x. x == 0) (drop n f)
 
 abbrev pub is_zero : ℤ → Bool
 is_zero (pos n) = n == 0
@@ -100,19 +95,23 @@ rest_zero b =
     && (zero_past (used_fields b.kind) b.fields
     && (has_point b.kind || is_origin b.at)))
 
+-- the field i, as a number of an edit
+abbrev pub field : List ℕ → ℕ → ℤ
+field f i = pos (slice_index f i)
+
 -- the edit of a kind, 1 to 10, with its fields and its point
-abbrev pub edit_of : ℕ → Fields → Point → Edit
+abbrev pub edit_of : ℕ → List ℕ → Point → Edit
 edit_of k f p =
-    cond (k == 1) (Mvfs (pos f.a) (pos f.b) (pos f.c) (pos f.d) p)
-    (cond (k == 2) (Kvfs (pos f.a))
-    (cond (k == 3) (Mev (pos f.a) (pos f.b) (pos f.c) p)
-    (cond (k == 4) (Kev (pos f.a))
-    (cond (k == 5) (Mef (pos f.a) (pos f.b) (pos f.c) (pos f.d) (pos f.e))
-    (cond (k == 6) (Kef (pos f.a))
-    (cond (k == 7) (Kemr (pos f.a) (pos f.b))
-    (cond (k == 8) (Mekr (pos f.a) (pos f.b) (pos f.c))
-    (cond (k == 9) (Kfmrh (pos f.a) (pos f.b))
-    (Move (pos f.a) p)))))))))
+    cond (k == 1) (Mvfs (field f 0) (field f 1) (field f 2) (field f 3) p)
+    (cond (k == 2) (Kvfs (field f 0))
+    (cond (k == 3) (Mev (field f 0) (field f 1) (field f 2) p)
+    (cond (k == 4) (Kev (field f 0))
+    (cond (k == 5) (Mef (field f 0) (field f 1) (field f 2) (field f 3) (field f 4))
+    (cond (k == 6) (Kef (field f 0))
+    (cond (k == 7) (Kemr (field f 0) (field f 1))
+    (cond (k == 8) (Mekr (field f 0) (field f 1) (field f 2))
+    (cond (k == 9) (Kfmrh (field f 0) (field f 1))
+    (Move (field f 0) p)))))))))
 
 -- a batch number, and a position from first to last
 abbrev pub numbered : ℕ → ℕ → Block → Bool

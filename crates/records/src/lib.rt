@@ -1,15 +1,14 @@
 // A record of the journal as a block of 32 bytes.
 #![tactic(auto)]
 
-ghost use Rattle.std.specs.Prelude.{◌≡◌, ◌<◌, Some, None};
-ghost use Rattle.boundary.specs.Operators.{named};
-ghost use Rattle.records.specs.Blocks.{laid, laid_fields, laid_point, two_at, four_at, signed, fields_at, point_at};
+ghost use Rattle.std.specs.Prelude.{◌≡◌, ◌+◌, ◌<◌, ◌≤◌, ◌++◌, map, Some, None, length, take, drop, slice_range};
+ghost use Rattle.records.specs.Blocks.{two, laid, two_at, four_at, fields_at, point_at};
 ghost use Rattle.records.specs.Examples.{Worked};
 ghost use Rattle.records.specs.Laws.{Fit, IsRecord, Parted, RecordsStand};
-ghost use Rattle.records.specs.Records.{five, kind_of, fields_of, point_of, block_of, bytes_of, used_fields, has_point, zero_past, is_origin, rest_zero, edit_of, numbered, record_of};
+ghost use Rattle.records.specs.Records.{kind_of, numbers_of, point_of, block_of, bytes_of, used_fields, has_point, zero_past, rest_zero, edit_of, numbered, record_of};
 ghost use Rattle.records.specs.declared.Record.{Record};
 
-use boundary::{Edit, Point};
+use boundary::{Edit, Point, named};
 
 // An edit at its position in a batch, or the end of a batch with its count of edits.
 #[derive(Clone, Copy)]
@@ -25,16 +24,6 @@ pub enum Record {
     },
 }
 
-// The numbers of an edit, in the order of its operator.
-#[derive(Clone, Copy)]
-struct Fields {
-    a: u16,
-    b: u16,
-    c: u16,
-    d: u16,
-    e: u16,
-}
-
 // The parts of a block, whatever they say. In a record `spare` and `gap` are zero.
 #[derive(Clone, Copy)]
 struct Block {
@@ -42,7 +31,7 @@ struct Block {
     spare: u8,
     number: u32,
     position: u16,
-    fields: Fields,
+    fields: [u16; 5],
     gap: u16,
     at: Point,
 }
@@ -51,19 +40,7 @@ const ORIGIN: Point = Point { x: 0, y: 0, z: 0 };
 
 const CLOSING: u8 = 100;
 
-// The number that a field of an edit names.
-fn named(field: i32) -> u16
-    ensures { result ≡ named field }
-{
-    u16::try_from(field).unwrap_or(0)
-}
-
-fn five(a: u16, b: u16, c: u16, d: u16, e: u16) -> Fields
-    ensures { result ≡ five a b c d e }
-{
-    Fields { a, b, c, d, e }
-}
-
+// The kind of the block of an edit.
 fn kind_of(edit: Edit) -> u8
     ensures { result ≡ kind_of edit }
 {
@@ -81,8 +58,9 @@ fn kind_of(edit: Edit) -> u8
     }
 }
 
-fn fields_of(edit: Edit) -> Fields
-    ensures { result ≡ fields_of edit }
+// The numbers of an edit, in the order of its operator, and then zeros.
+fn numbers_of(edit: Edit) -> [i32; 5]
+    ensures { result ≡ numbers_of edit }
 {
     match edit {
         Edit::Mvfs {
@@ -91,33 +69,27 @@ fn fields_of(edit: Edit) -> Fields
             outer,
             vertex,
             ..
-        } => five(named(shell), named(face), named(outer), named(vertex), 0),
-        Edit::Kvfs { shell } => five(named(shell), 0, 0, 0, 0),
+        } => [shell, face, outer, vertex, 0],
+        Edit::Kvfs { shell } => [shell, 0, 0, 0, 0],
         Edit::Mev {
             place,
             edge,
             vertex,
             ..
-        } => five(named(place), named(edge), named(vertex), 0, 0),
-        Edit::Kev { half } => five(named(half), 0, 0, 0, 0),
+        } => [place, edge, vertex, 0, 0],
+        Edit::Kev { half } => [half, 0, 0, 0, 0],
         Edit::Mef {
             from,
             to,
             edge,
             face,
             outer,
-        } => five(
-            named(from),
-            named(to),
-            named(edge),
-            named(face),
-            named(outer),
-        ),
-        Edit::Kef { half } => five(named(half), 0, 0, 0, 0),
-        Edit::Kemr { half, inner } => five(named(half), named(inner), 0, 0, 0),
-        Edit::Mekr { to, inner, edge } => five(named(to), named(inner), named(edge), 0, 0),
-        Edit::Kfmrh { kept, killed } => five(named(kept), named(killed), 0, 0, 0),
-        Edit::Move { vertex, .. } => five(named(vertex), 0, 0, 0, 0),
+        } => [from, to, edge, face, outer],
+        Edit::Kef { half } => [half, 0, 0, 0, 0],
+        Edit::Kemr { half, inner } => [half, inner, 0, 0, 0],
+        Edit::Mekr { to, inner, edge } => [to, inner, edge, 0, 0],
+        Edit::Kfmrh { kept, killed } => [kept, killed, 0, 0, 0],
+        Edit::Move { vertex, .. } => [vertex, 0, 0, 0, 0],
     }
 }
 
@@ -125,179 +97,73 @@ fn point_of(edit: Edit) -> Point
     ensures { result ≡ point_of edit }
 {
     match edit {
-        Edit::Mvfs { at, .. } => at,
-        Edit::Mev { at, .. } => at,
-        Edit::Move { at, .. } => at,
+        Edit::Mvfs { at, .. } | Edit::Mev { at, .. } | Edit::Move { at, .. } => at,
         _ => ORIGIN,
     }
 }
 
-fn block_of(record: Record) -> Block
-    ensures { result ≡ block_of «record» }
+// Writes the bytes `part` from the byte `i` on.
+fn put(bytes: &mut [u8; 32], i: usize, part: &[u8])
+    requires { i + length part.now ≤ 32 }
+    ensures { bytes.new ≡ take i bytes.old ++ (part.now ++ drop (i + length part.now) bytes.old) }
 {
-    match record {
-        Record::Change {
-            number,
-            position,
-            edit,
-        } => {
-            Block {
-                kind: kind_of(edit),
-                spare: 0,
-                number,
-                position,
-                fields: fields_of(edit),
-                gap: 0,
-                at: point_of(edit),
-            }
-        }
-        Record::Closing { number, count } => {
-            Block {
-                kind: CLOSING,
-                spare: 0,
-                number,
-                position: count,
-                fields: five(0, 0, 0, 0, 0),
-                gap: 0,
-                at: ORIGIN,
-            }
-        }
-    }
+    bytes[i..i + part.len()].copy_from_slice(part);
 }
 
-fn laid_fields(fields: Fields) -> [u8; 10]
-    ensures { result ≡ laid_fields fields }
+// Each field in two bytes, low byte first.
+fn field_bytes(fields: [u16; 5]) -> [[u8; 2]; 5]
+    ensures { result ≡ map two fields }
 {
-    let a = fields.a.to_le_bytes();
-    let b = fields.b.to_le_bytes();
-    let c = fields.c.to_le_bytes();
-    let d = fields.d.to_le_bytes();
-    let e = fields.e.to_le_bytes();
-    [a[0], a[1], b[0], b[1], c[0], c[1], d[0], d[1], e[0], e[1]]
+    fields.map(u16::to_le_bytes)
 }
 
-fn laid_point(at: Point) -> [u8; 12]
-    ensures { result ≡ laid_point at }
+// The `N` bytes from the byte `i` on.
+fn bytes_at<const N: usize>(bytes: &[u8; 32], i: usize) -> [u8; N]
+    requires { i + N ≤ 32 }
+    ensures { result ≡ slice_range bytes.now i (i + N) }
 {
-    let x = at.x.to_le_bytes();
-    let y = at.y.to_le_bytes();
-    let z = at.z.to_le_bytes();
-    [
-        x[0], x[1], x[2], x[3], y[0], y[1], y[2], y[3], z[0], z[1], z[2], z[3],
-    ]
-}
-
-fn laid(block: Block) -> [u8; 32]
-    ensures { result ≡ laid block }
-{
-    let n = block.number.to_le_bytes();
-    let p = block.position.to_le_bytes();
-    let f = laid_fields(block.fields);
-    let g = block.gap.to_le_bytes();
-    let q = laid_point(block.at);
-    [
-        block.kind,
-        block.spare,
-        n[0],
-        n[1],
-        n[2],
-        n[3],
-        p[0],
-        p[1],
-        f[0],
-        f[1],
-        f[2],
-        f[3],
-        f[4],
-        f[5],
-        f[6],
-        f[7],
-        f[8],
-        f[9],
-        g[0],
-        g[1],
-        q[0],
-        q[1],
-        q[2],
-        q[3],
-        q[4],
-        q[5],
-        q[6],
-        q[7],
-        q[8],
-        q[9],
-        q[10],
-        q[11],
-    ]
-}
-
-// The block of a record.
-pub fn encode(record: Record) -> [u8; 32]
-    ensures is { result ≡ bytes_of «record» }
-    ensures back { Fit «record» → record_of result ≡ Some «record» }
-{
-    laid(block_of(record))
+    bytes[i..i + N].try_into().unwrap()
 }
 
 fn two_at(bytes: &[u8; 32], i: usize) -> u16
     requires { i < 31 }
     ensures { result ≡ two_at bytes.now i }
 {
-    u16::from_le_bytes([bytes[i], bytes[i + 1]])
+    u16::from_le_bytes(bytes_at(bytes, i))
 }
 
 fn four_at(bytes: &[u8; 32], i: usize) -> u32
     requires { i < 29 }
     ensures { result ≡ four_at bytes.now i }
 {
-    u32::from_le_bytes([bytes[i], bytes[i + 1], bytes[i + 2], bytes[i + 3]])
+    u32::from_le_bytes(bytes_at(bytes, i))
 }
 
-fn signed_at(bytes: &[u8; 32], i: usize) -> i32
-    requires { i < 29 }
-    ensures { result ≡ signed (four_at bytes.now i) }
-{
-    i32::from_le_bytes([bytes[i], bytes[i + 1], bytes[i + 2], bytes[i + 3]])
-}
-
-fn fields_at(bytes: &[u8; 32]) -> Fields
+fn fields_at(bytes: &[u8; 32]) -> [u16; 5]
     ensures { result ≡ fields_at bytes.now }
 {
-    Fields {
-        a: two_at(bytes, 8),
-        b: two_at(bytes, 10),
-        c: two_at(bytes, 12),
-        d: two_at(bytes, 14),
-        e: two_at(bytes, 16),
-    }
+    [
+        two_at(bytes, 8),
+        two_at(bytes, 10),
+        two_at(bytes, 12),
+        two_at(bytes, 14),
+        two_at(bytes, 16),
+    ]
 }
 
 fn point_at(bytes: &[u8; 32]) -> Point
     ensures { result ≡ point_at bytes.now }
 {
+    let coordinate = |i| four_at(bytes, i).cast_signed();
     Point {
-        x: signed_at(bytes, 20),
-        y: signed_at(bytes, 24),
-        z: signed_at(bytes, 28),
-    }
-}
-
-fn parts(bytes: &[u8; 32]) -> Block
-    ensures { Parted bytes.now result }
-{
-    Block {
-        kind: bytes[0],
-        spare: bytes[1],
-        number: four_at(bytes, 2),
-        position: two_at(bytes, 6),
-        fields: fields_at(bytes),
-        gap: two_at(bytes, 18),
-        at: point_at(bytes),
+        x: coordinate(20),
+        y: coordinate(24),
+        z: coordinate(28),
     }
 }
 
 // How many of the fields a kind uses.
-fn used_fields(kind: u8) -> u8
+fn used_fields(kind: u8) -> usize
     ensures { result ≡ used_fields kind }
 {
     match kind {
@@ -305,7 +171,7 @@ fn used_fields(kind: u8) -> u8
         3 | 8 => 3,
         5 => 5,
         7 | 9 => 2,
-        100 => 0,
+        CLOSING => 0,
         _ => 1,
     }
 }
@@ -314,85 +180,147 @@ fn used_fields(kind: u8) -> u8
 fn has_point(kind: u8) -> bool
     ensures { result ≡ has_point kind }
 {
-    kind == 1 || kind == 3 || kind == 10
+    matches!(kind, 1 | 3 | 10)
 }
 
 // Whether the fields past the first `count` are zero.
-fn zero_past(count: u8, fields: Fields) -> bool
+fn zero_past(count: usize, fields: [u16; 5]) -> bool
     ensures { result ≡ zero_past count fields }
 {
-    (count >= 1 || fields.a == 0)
-        && (count >= 2 || fields.b == 0)
-        && (count >= 3 || fields.c == 0)
-        && (count >= 4 || fields.d == 0)
-        && (count >= 5 || fields.e == 0)
+    fields.iter().skip(count).all(|field| *field == 0)
 }
 
-fn is_origin(at: Point) -> bool
-    ensures { result ≡ is_origin at }
-{
-    at.x == 0 && at.y == 0 && at.z == 0
-}
+impl Block {
+    // The block of a record.
+    fn of(record: Record) -> Block
+        ensures { result ≡ block_of «record» }
+    {
+        match record {
+            Record::Change {
+                number,
+                position,
+                edit,
+            } => Block {
+                kind: kind_of(edit),
+                spare: 0,
+                number,
+                position,
+                fields: numbers_of(edit).map(named),
+                gap: 0,
+                at: point_of(edit),
+            },
+            Record::Closing { number, count } => {
+                Block {
+                    kind: CLOSING,
+                    spare: 0,
+                    number,
+                    position: count,
+                    fields: [0; 5],
+                    gap: 0,
+                    at: ORIGIN,
+                }
+            }
+        }
+    }
 
-// Whether all that its kind does not use is zero.
-fn rest_zero(block: Block) -> bool
-    ensures { result ≡ rest_zero block }
-{
-    block.spare == 0
-        && block.gap == 0
-        && zero_past(used_fields(block.kind), block.fields)
-        && (has_point(block.kind) || is_origin(block.at))
-}
+    // The block that the bytes say.
+    fn read(bytes: &[u8; 32]) -> Block
+        ensures { Parted bytes.now result }
+    {
+        Block {
+            kind: bytes[0],
+            spare: bytes[1],
+            number: four_at(bytes, 2),
+            position: two_at(bytes, 6),
+            fields: fields_at(bytes),
+            gap: two_at(bytes, 18),
+            at: point_at(bytes),
+        }
+    }
 
-// The edit of a kind from 1 to 10.
-fn edit_of(kind: u8, f: Fields, at: Point) -> Edit
-    ensures { result ≡ edit_of kind f at }
-{
-    let a = i32::from(f.a);
-    let b = i32::from(f.b);
-    let c = i32::from(f.c);
-    let d = i32::from(f.d);
-    let e = i32::from(f.e);
-    match kind {
-        1 => Edit::Mvfs {
-            shell: a,
-            face: b,
-            outer: c,
-            vertex: d,
-            at,
-        },
-        2 => Edit::Kvfs { shell: a },
-        3 => Edit::Mev {
-            place: a,
-            edge: b,
-            vertex: c,
-            at,
-        },
-        4 => Edit::Kev { half: a },
-        5 => Edit::Mef {
-            from: a,
-            to: b,
-            edge: c,
-            face: d,
-            outer: e,
-        },
-        6 => Edit::Kef { half: a },
-        7 => Edit::Kemr { half: a, inner: b },
-        8 => Edit::Mekr {
-            to: a,
-            inner: b,
-            edge: c,
-        },
-        9 => Edit::Kfmrh { kept: a, killed: b },
-        _ => Edit::Move { vertex: a, at },
+    // The bytes of the parts, each low byte first.
+    fn bytes(self) -> [u8; 32]
+        ensures { result ≡ laid self }
+    {
+        let fields = field_bytes(self.fields);
+        let mut bytes = [0; 32];
+        bytes[0] = self.kind;
+        bytes[1] = self.spare;
+        put(&mut bytes, 2, &self.number.to_le_bytes());
+        put(&mut bytes, 6, &self.position.to_le_bytes());
+        put(&mut bytes, 8, fields.as_flattened());
+        put(&mut bytes, 18, &self.gap.to_le_bytes());
+        put(&mut bytes, 20, &self.at.x.to_le_bytes());
+        put(&mut bytes, 24, &self.at.y.to_le_bytes());
+        put(&mut bytes, 28, &self.at.z.to_le_bytes());
+        bytes
+    }
+
+    // Whether all that its kind does not use is zero.
+    fn rest_is_zero(self) -> bool
+        ensures { result ≡ rest_zero self }
+    {
+        self.spare == 0
+            && self.gap == 0
+            && zero_past(used_fields(self.kind), self.fields)
+            && (has_point(self.kind) || self.at == ORIGIN)
+    }
+
+    // Whether the block has a batch number, and a position from `first` to `last`.
+    fn is_numbered(self, first: u16, last: u16) -> bool
+        ensures { result ≡ numbered first last self }
+    {
+        1 <= self.number && (first..=last).contains(&self.position)
+    }
+
+    // The edit of the block, whose kind is from 1 to 10.
+    fn edit(self) -> Edit
+        ensures { result ≡ edit_of self.kind self.fields self.at }
+    {
+        let at = self.at;
+        let [a, b, c, d, e] = self.fields.map(i32::from);
+        match self.kind {
+            1 => Edit::Mvfs {
+                shell: a,
+                face: b,
+                outer: c,
+                vertex: d,
+                at,
+            },
+            2 => Edit::Kvfs { shell: a },
+            3 => Edit::Mev {
+                place: a,
+                edge: b,
+                vertex: c,
+                at,
+            },
+            4 => Edit::Kev { half: a },
+            5 => Edit::Mef {
+                from: a,
+                to: b,
+                edge: c,
+                face: d,
+                outer: e,
+            },
+            6 => Edit::Kef { half: a },
+            7 => Edit::Kemr { half: a, inner: b },
+            8 => Edit::Mekr {
+                to: a,
+                inner: b,
+                edge: c,
+            },
+            9 => Edit::Kfmrh { kept: a, killed: b },
+            _ => Edit::Move { vertex: a, at },
+        }
     }
 }
 
-// Whether the block has a batch number, and a position from `first` to `last`.
-fn numbered(block: Block, first: u16, last: u16) -> bool
-    ensures { result ≡ numbered first last block }
+// The block of a record.
+pub fn encode(record: Record) -> [u8; 32]
+    ensures is { result ≡ bytes_of «record» }
+    ensures back { Fit «record» → record_of result ≡ Some «record» }
 {
-    1 <= block.number && first <= block.position && block.position <= last
+    Block::of(record).bytes()
 }
 
 // The record that a block is, if it is one.
@@ -400,16 +328,16 @@ pub fn decode(bytes: &[u8; 32]) -> Option<Record>
     ensures is { result ≡ record_of bytes.now }
     ensures back { elim result [ None ↦ Unit {0} | Some x ↦ IsRecord bytes.now x ] }
 {
-    let block = parts(bytes);
+    let block = Block::read(bytes);
     match block.kind {
-        1..=10 if numbered(block, 0, 15) && rest_zero(block) => {
+        1..=10 if block.is_numbered(0, 15) && block.rest_is_zero() => {
             Some(Record::Change {
                 number: block.number,
                 position: block.position,
-                edit: edit_of(block.kind, block.fields, block.at),
+                edit: block.edit(),
             })
         }
-        100 if numbered(block, 1, 16) && rest_zero(block) => {
+        CLOSING if block.is_numbered(1, 16) && block.rest_is_zero() => {
             Some(Record::Closing {
                 number: block.number,
                 count: block.position,

@@ -11,5 +11,5 @@ encoded r bs e = e
 
 pub returns : goal.returns
 returns c =
-    let e : c.laid.result ≡ bytes_of c.args.record = encoded _ _ (c.laid.ensures ∙ ap laid c.block_of.ensures) in
+    let e : c.bytes.result ≡ bytes_of c.args.record = encoded _ _ (c.bytes.ensures ∙ ap laid c.of.ensures) in
     record { is = e; back = λ f. ap record_of e ∙ round c.args.record f }
