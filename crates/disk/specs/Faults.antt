@@ -1,5 +1,5 @@
 -- How a fault of the disk is told: its number, the layer it comes from, and its place.
-use Rattle.std.specs.Prelude.{ℕ}
+use Rattle.std.specs.Prelude.{ℕ, Some, None}
 use Rattle.disk.specs.declared.Layer.{Layer}
 use Rattle.disk.specs.declared.Layer.TheVariants.{Disk}
 use Rattle.disk.specs.declared.Told.{Told}
@@ -18,7 +18,8 @@ fault_layer (NoSuchBlock p) = Disk
 
 -- the block, or 65,535 for a flush
 abbrev pub fault_place : DiskFault → ℕ
-fault_place (PowerGone p) = p
+fault_place (PowerGone (Some k)) = k
+fault_place (PowerGone None) = 65535
 fault_place (NoSuchBlock p) = p
 
 abbrev pub disk_told : DiskFault → Told

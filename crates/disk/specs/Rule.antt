@@ -1,7 +1,7 @@
 -- The power rule: what one call of a disk may change, by the call and its answer.
 -- Of a disk state d, `reads d` says what each block reads, `may d k c` that the content c may stand in block k after the power is lost,
 -- and `gone d` whether the power is off.
-use Rattle.std.specs.Prelude.{◌≡◌, ℕ, ◌<◌, ◌≤◌, Bool, true, false, ◌⊎◌, List, length, Ok, Err, slice_index_or, slice_set}
+use Rattle.std.specs.Prelude.{◌≡◌, ℕ, ◌<◌, ◌≤◌, Bool, true, false, ◌⊎◌, List, length, Some, None, Ok, Err, slice_index_or, slice_set}
 use Rattle.disk.specs.declared.Content.{Content}
 use Rattle.disk.specs.declared.Content.TheVariants.{Bytes, Unreadable}
 use Rattle.disk.specs.declared.DiskFault.TheVariants.{PowerGone, NoSuchBlock}
@@ -31,11 +31,11 @@ module _ {S : Type 0} (reads : S → List Content) (may : S → ℕ → Content 
   -- a 21 comes for a bad block number alone, with or without power, and changes nothing.
   abbrev pub Allowed : (S → Bool) → S → Call → S → Type 0
   Allowed gone d (reading k (Ok c)) e = (k < length (reads d)) × (gone d ≡ false) × (c ≡ slice_index_or (reads d) k Unreadable) × Same d e
-  Allowed gone d (reading k (Err (PowerGone p))) e = (k < length (reads d)) × (p ≡ k) × (gone e ≡ true) × Quiet d e
+  Allowed gone d (reading k (Err (PowerGone p))) e = (k < length (reads d)) × (p ≡ Some k) × (gone e ≡ true) × Quiet d e
   Allowed gone d (reading k (Err (NoSuchBlock p))) e = (length (reads d) ≤ k) × (p ≡ k) × (gone e ≡ gone d) × Same d e
   Allowed gone d (writing k new (Ok u)) e = (k < length (reads d)) × (gone d ≡ false) × (reads e ≡ slice_set (reads d) k (Bytes new)) × Gains d k new e
-  Allowed gone d (writing k new (Err (PowerGone p))) e = (k < length (reads d)) × (p ≡ k) × (gone e ≡ true) × (reads e ≡ reads d) × Gains d k new e
+  Allowed gone d (writing k new (Err (PowerGone p))) e = (k < length (reads d)) × (p ≡ Some k) × (gone e ≡ true) × (reads e ≡ reads d) × Gains d k new e
   Allowed gone d (writing k new (Err (NoSuchBlock p))) e = (length (reads d) ≤ k) × (p ≡ k) × (gone e ≡ gone d) × Same d e
   Allowed gone d (flushing (Ok u)) e = (gone d ≡ false) × Settled d e
-  Allowed gone d (flushing (Err (PowerGone p))) e = (p ≡ 65535) × (gone e ≡ true) × Quiet d e
+  Allowed gone d (flushing (Err (PowerGone p))) e = (p ≡ None) × (gone e ≡ true) × Quiet d e
   Allowed gone d (flushing (Err (NoSuchBlock p))) e = ⊥

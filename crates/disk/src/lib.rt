@@ -20,8 +20,8 @@ ghost use Rattle.std.proofs.Common.{rules};
 ghost use Rattle.disk.specs.EithersLemmas.{either_stands, either_keeps};
 ghost use Rattle.disk.specs.SettlingsLemmas.{settling_stands, settling_keeps};
 
-// The place of a fault at a flush, which names no block.
-const NO_BLOCK: u32 = 65_535;
+// What a fault at a flush tells as its place, since a flush names no block.
+const NO_BLOCK: usize = 65_535;
 
 // What a block reads.
 #[derive(Clone, Copy)]
@@ -51,10 +51,10 @@ pub enum Layer {
     Script,
 }
 
-// Why a disk did not serve a call, with the block that it named.
+// Why a disk did not serve a call, with the block that it named; a flush names none.
 #[derive(Clone, Copy)]
 pub enum DiskFault {
-    PowerGone(u32),
+    PowerGone(Option<u32>),
     NoSuchBlock(u32),
 }
 
@@ -97,8 +97,9 @@ impl Fault for DiskFault {
 
     fn told(&self) -> Told {
         let (number, place) = match *self {
-            DiskFault::PowerGone(place) => (20, place as usize),
-            DiskFault::NoSuchBlock(place) => (21, place as usize),
+            DiskFault::PowerGone(Some(block)) => (20, block as usize),
+            DiskFault::PowerGone(None) => (20, NO_BLOCK),
+            DiskFault::NoSuchBlock(block) => (21, block as usize),
         };
         Told {
             number,
@@ -152,12 +153,12 @@ impl<D: Disk> Stop<D> {
     }
 
     // Counts a call that is passed on, and refuses it where none is left.
-    fn count(&mut self, place: u32) -> Result<(), DiskFault>
-        ensures answer { result ≡ counted self.old.left place }
+    fn count(&mut self, block: Option<u32>) -> Result<(), DiskFault>
+        ensures answer { result ≡ counted self.old.left block }
         ensures after { self.new ≡ record { disk = self.old.disk; left = self.old.left - 1 } }
     {
         if self.left == 0 {
-            return Err(DiskFault::PowerGone(place));
+            return Err(DiskFault::PowerGone(block));
         }
         self.left -= 1;
         Ok(())
@@ -171,7 +172,7 @@ impl<D: Disk> Stop<D> {
         if block as usize >= self.size() {
             return Err(DiskFault::NoSuchBlock(block));
         }
-        self.count(block)
+        self.count(Some(block))
     }
 
     // The disk below.
@@ -211,7 +212,7 @@ impl<D: Disk> Disk for Stop<D> {
     }
 
     fn flush(&mut self) -> Result<(), DiskFault> {
-        self.count(NO_BLOCK)?;
+        self.count(None)?;
         self.disk.flush()
     }
 }

@@ -68,7 +68,7 @@ pub seen_ok : (cs : List Content) (k : ℕ) (r : Reader) → Seen cs k r → is_
 seen_ok cs k r seen = ap is_ok (seen_opening cs k r seen)
 
 -- a read of a block below the count is refused for want of power alone
-pub read_cut : {S : Type 0} (reads : S → List Content) (may : S → ℕ → Content → Type 0) (gone : S → Bool) (d e : S) (k : ℕ) (f : DiskFault) → k < length (reads d) → Allowed reads may gone d (reading k (Err f)) e → f ≡ PowerGone k
+pub read_cut : {S : Type 0} (reads : S → List Content) (may : S → ℕ → Content → Type 0) (gone : S → Bool) (d e : S) (k : ℕ) (f : DiskFault) → k < length (reads d) → Allowed reads may gone d (reading k (Err f)) e → f ≡ PowerGone (Some k)
 read_cut reads may gone d e k (PowerGone p) lt a = ap PowerGone a.1
 read_cut reads may gone d e k (NoSuchBlock p) lt a = absurd (omega (arith, a.0))
 

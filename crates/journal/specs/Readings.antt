@@ -74,7 +74,7 @@ pub record HoldsJournal (n : ℕ) : Type 0 where
 module _ {S : Type 0} (reads : S → List Content) (did : S → Call → S → Type 0) where
   -- Reading was refused. Where the count is bad no block was read. Else the blocks were read from 0 on: up to one whose read was answered 20, or up to one that closes a batch with a refused edit; nothing was refused before.
   abbrev pub Failed : S → JournalFault → S → Type 0
-  Failed d (Disk f) e = HoldsJournal (length (reads d)) × (k : ℕ) × (k < length (reads d)) × (f ≡ PowerGone k) × (is_ok (opening (take k (reads d))) ≡ true) × Chain did d (served_reads 0 (take k (reads d)) ++ reading k (Err f) ∷ []) e
+  Failed d (Disk f) e = HoldsJournal (length (reads d)) × (k : ℕ) × (k < length (reads d)) × (f ≡ PowerGone (Some k)) × (is_ok (opening (take k (reads d))) ≡ true) × Chain did d (served_reads 0 (take k (reads d)) ++ reading k (Err f) ∷ []) e
   Failed d (NoEdits t) e = ⊥
   Failed d (Full t) e = ⊥
   Failed d (BadSize n) e = (n ≡ length (reads d)) × ((n < 2) ⊎ (1000 < n)) × (e ≡ d)

@@ -216,21 +216,21 @@ module _ {S : Type 0} (reads : S → List Content) (may : S → ℕ → Content 
     opens_cut : (f : DiskFault) (e : S) → Looked reads did d empty (Err (Disk f)) e → Goes ss Open (told_20 f) (Opened (opened e empty (Err (Disk f))))
     opens_cut f e h = goes (Idle d) (Opened (opened e empty (Err (Disk f)))) Open (told_20 f) (served_reads 0 (take k (reads d)) ++ reading k (Err f) ∷ []) (Some f) run h.0.5
         (cut_last (served_reads 0 (take k (reads d))) (reading k (Err f)) f (uncut_reads 0 (take k (reads d))) (ap (λ x. ledgers.cut_of (reading k (Err x))) power ∙ ap Some (sym power))) refl
-        (read_cut (take k (reads d)) (omega (arith, long, h.0.2, count)) (ap (λ x. served_reads 0 (take k (reads d)) ++ reading k (Err x) ∷ []) power ∙ ap (λ j. served_reads 0 (take k (reads d)) ++ reading j (Err (PowerGone j)) ∷ []) (sym long)))
+        (read_cut (take k (reads d)) (omega (arith, long, h.0.2, count)) (ap (λ x. served_reads 0 (take k (reads d)) ++ reading k (Err x) ∷ []) power ∙ ap (λ j. served_reads 0 (take k (reads d)) ++ reading j (Err (PowerGone (Some j))) ∷ []) (sym long)))
         refl (open_promise a _ (Some f) refl)
         (record { kept = (reads_on reads may gone did stands keeps d₀ hi empty (Err (Disk f)) e h a q g.kept).goes_on; fits = g.fits; doubt = doubted q g.doubt; at = record { is = refl; off = off } })
       where
         k : ℕ
         k = h.0.1
 
-        power : f ≡ PowerGone k
+        power : f ≡ PowerGone (Some k)
         power = h.0.3
 
         long : length (take k (reads d)) ≡ k
         long = length-take-le k (reads d) (omega (arith, h.0.2))
 
         off : gone e ≡ true
-        off = read_gone reads may gone did keeps (served_reads 0 (take k (reads d))) k k (subst (λ x. Chain did d (served_reads 0 (take k (reads d)) ++ reading k (Err x) ∷ []) e) power h.0.5)
+        off = read_gone reads may gone did keeps (served_reads 0 (take k (reads d))) k (Some k) (subst (λ x. Chain did d (served_reads 0 (take k (reads d)) ++ reading k (Err x) ∷ []) e) power h.0.5)
 
         doubted : (o : Option (List Edit)) → Doubted a o d → Doubted a o e
         doubted None w = tt

@@ -31,13 +31,13 @@ cut_last (x ∷ cs) c f h w = go (cut_of x) h (cut_last cs c f)
     go None h more = more h w
     go (Some y) h more = cc
 
-pub step_cut : (s : Step) (p : ℕ) → cut_of (as_call s (Err (PowerGone p))) ≡ Some (PowerGone p)
+pub step_cut : (s : Step) (p : Option ℕ) → cut_of (as_call s (Err (PowerGone p))) ≡ Some (PowerGone p)
 step_cut (put k r) p = refl
 step_cut settle p = refl
 
 module _ {S : Type 0} (reads : S → List Content) (may : S → ℕ → Content → Type 0) (gone : S → Bool) (did : S → Call → S → Type 0) (keeps : (d : S) (c : Call) (e : S) → did d c e → Allowed reads may gone d c e) where
   -- behind a read that was answered 20 the power is gone
-  pub read_gone : (xs : List Call) (k p : ℕ) {d z : S} → Chain did d (xs ++ reading k (Err (PowerGone p)) ∷ []) z → gone z ≡ true
+  pub read_gone : (xs : List Call) (k : ℕ) (p : Option ℕ) {d z : S} → Chain did d (xs ++ reading k (Err (PowerGone p)) ∷ []) z → gone z ≡ true
   read_gone [] k p (first {d = d} {e = e} h none) = (keeps d _ e h).2
   read_gone (x ∷ xs) k p (first h r) = read_gone xs k p r
 

@@ -28,12 +28,12 @@ use Rattle.runs.specs.Ledgers.{Ledger, Stage, idle, in_session, in_batch, nothin
 -- the disk calls of an open on a disk of n blocks: every block is read once, rising; or the reads up to some block are served and the next is answered 20
 pub data OpenCalls (n : ℕ) (ds : List DiskCall) : Type 0 where
   all_read : (cs : List Content) → length cs ≡ n → ds ≡ served_reads 0 cs → OpenCalls n ds
-  read_cut : (cs : List Content) → length cs < n → ds ≡ served_reads 0 cs ++ reading (length cs) (Err (PowerGone (length cs))) ∷ [] → OpenCalls n ds
+  read_cut : (cs : List Content) → length cs < n → ds ≡ served_reads 0 cs ++ reading (length cs) (Err (PowerGone (Some (length cs)))) ∷ [] → OpenCalls n ds
 
 -- the disk calls of a commit of the batch es behind bs: its edits, a flush, the closing record, a flush; or those before some call, and that one is answered 20
 pub data CommitCalls (bs : List (List Edit)) (es : List Edit) (ds : List DiskCall) : Type 0 where
   all_served : ds ≡ served (plan (length bs + 1) (blocks bs) es) → CommitCalls bs es ds
-  cut_at : (i p : ℕ) → i < length (plan (length bs + 1) (blocks bs) es) → ds ≡ served (take i (plan (length bs + 1) (blocks bs) es)) ++ as_call (slice_index_or (plan (length bs + 1) (blocks bs) es) i settle) (Err (PowerGone p)) ∷ [] → CommitCalls bs es ds
+  cut_at : (i : ℕ) (p : Option ℕ) → i < length (plan (length bs + 1) (blocks bs) es) → ds ≡ served (take i (plan (length bs + 1) (blocks bs) es)) ++ as_call (slice_index_or (plan (length bs + 1) (blocks bs) es) i settle) (Err (PowerGone p)) ∷ [] → CommitCalls bs es ds
 
 -- the disk calls of a commit that is dropped: none; of any other those of its batch
 pub data MadeByCommit (n : ℕ) (bs : List (List Edit)) (mark : Option DiskFault) (es : List Edit) (ds : List DiskCall) : Type 0 where

@@ -214,7 +214,7 @@ module _ {S : Type 0} (reads : S → List Content) (may : S → ℕ → Content 
       pub count : length (reads d) ≡ N
       pub last : HoldsOrLast reads may bs es d
       pub off : gone d ≡ true
-      pub block : ℕ
+      pub block : Option ℕ
       pub power : f ≡ PowerGone block
 
     -- a call left as many blocks
