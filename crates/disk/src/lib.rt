@@ -346,6 +346,14 @@ pub trait Cells {
         ensures { held self.new ≡ slice_set (held self.old) k cell };
 }
 
+fn put_in(cells: &mut [Cell], k: usize, cell: Cell)
+    ensures { cells.new ≡ slice_set cells.old k cell }
+{
+    if k < cells.len() {
+        cells[k] = cell;
+    }
+}
+
 // Lent cells.
 #[derive(Drop)]
 pub struct Lent<'a> {
@@ -373,9 +381,7 @@ impl<'a> Cells for Lent<'a> {
     }
 
     fn put(&mut self, k: usize, cell: Cell) {
-        if k < self.cells.len() {
-            self.cells[k] = cell;
-        }
+        put_in(self.cells, k, cell);
     }
 }
 
@@ -392,9 +398,7 @@ impl<const N: usize> Cells for [Cell; N] {
     }
 
     fn put(&mut self, k: usize, cell: Cell) {
-        if k < N {
-            self[k] = cell;
-        }
+        put_in(self, k, cell);
     }
 }
 
