@@ -1,10 +1,9 @@
 // A bench that supplies the disks of a run: one settling disk, behind a new stop after each loss of power.
 ghost use Rattle.sessions.specs.Benches.{Law, first_disk};
 
-use disk::{Cell, Content, Settling, Stop};
+use disk::{Cell, Settling, Stop};
 use runs::{Step, Supply};
 use std::fmt::{self, Display, Formatter, Write};
-use tally::Tally;
 
 // How many blocks the disk has.
 const BLOCKS: usize = 16;
@@ -21,7 +20,7 @@ type Memory = [Cell; BLOCKS];
 pub struct Loss {
     letters: &'static str,
     stop: u32,
-    left: Option<Memory>,
+    pub left: Option<Memory>,
 }
 
 // The stops cut the last flush of a commit, the write of a closing record, or a read.
@@ -52,16 +51,6 @@ const LOSSES: [Loss; 5] = [
         left: None,
     },
 ];
-
-impl Loss {
-    // What it left in the last block of the batch in doubt, if there is one.
-    pub fn last_block(&self, tally: Tally) -> Content {
-        let cell = tally
-            .doubtful()
-            .and_then(|block| self.left?.get(block as usize).copied());
-        cell.map_or(Content::Unreadable, |cell| cell.settled)
-    }
-}
 
 impl Display for Loss {
     fn fmt<W: Write>(&self, f: &mut Formatter<W>) -> fmt::Result {

@@ -1,7 +1,8 @@
 // Makes a list of calls of sessions on a disk that loses its power, and prints each call, its reply and the ledger that it leads to.
 #![tactic(auto)]
 
-use bench::Bench;
+use bench::{Bench, Loss};
+use disk::Content;
 use runs::{Call, Reply, Step};
 use std::io;
 use tally::Tally;
@@ -10,6 +11,14 @@ use text::Shown;
 mod bench;
 mod list;
 mod text;
+
+// What a loss left in the last block of the batch in doubt, if there is one.
+fn last_block(loss: &Loss, tally: Tally) -> Content {
+    let cell = tally
+        .doubtful()
+        .and_then(|block| loss.left?.get(block as usize).copied());
+    cell.map_or(Content::Unreadable, |cell| cell.settled)
+}
 
 // Prints the steps, each with what the replies and the losses up to it come to.
 fn tell_all(rt: &HostRuntime, bench: &Bench, steps: &[Step]) -> io::Result<()> {
@@ -21,7 +30,7 @@ fn tell_all(rt: &HostRuntime, bench: &Bench, steps: &[Step]) -> io::Result<()> {
             let Some(loss) = losses.next() else {
                 continue;
             };
-            let last = loss.last_block(tally);
+            let last = last_block(loss, tally);
             tally.note_loss(last);
             println!(rt; "{loss}: {reply} | {}", Shown(tally))?;
         } else {
