@@ -179,8 +179,7 @@ impl<D: Disk> Stop<D> {
     pub fn into_disk(self) -> D
         ensures { result ≡ self.disk }
     {
-        let Stop { disk, left: _ } = self;
-        disk
+        self.disk
     }
 }
 

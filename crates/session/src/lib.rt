@@ -67,8 +67,7 @@ impl<D: Disk> Session<D> {
     pub fn solid(&self) -> &Solid
         ensures { result.now ≡ self.now.solid }
     {
-        let shown = &self.solid;
-        shown
+        &self.solid
     }
 
     // Ends the session, and gives the disk back.
