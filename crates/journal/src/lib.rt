@@ -13,7 +13,7 @@ ghost use Rattle.standing.specs.Plans.{Carried, plan};
 ghost use Rattle.records.specs.declared.Record.TheVariants.{Change, Closing};
 
 use boundary::Edit;
-use disk::{Content, Disk, DiskFault, Fault};
+use disk::{Disk, DiskFault, Fault};
 pub use draft::Draft;
 use faults::{JournalFault, SolidFault};
 use records::Record;

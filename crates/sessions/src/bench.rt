@@ -59,6 +59,13 @@ impl Display for Loss {
     }
 }
 
+// What comes behind the losses of the table.
+pub const UNLISTED: Loss = Loss {
+    letters: "s",
+    stop: FIRST_STOP,
+    left: None,
+};
+
 // The losses in the order in which they come.
 #[derive(Clone, Copy)]
 pub struct Bench {
@@ -77,8 +84,8 @@ impl Supply for Bench {
     fn next(&mut self, lost: Stop<Settling<Memory>>) -> Stop<Settling<Memory>> {
         let mut disk = lost.into_disk();
         let Some(loss) = self.losses.iter_mut().find(|loss| loss.left.is_none()) else {
-            disk.lose(b"");
-            return Stop::new(disk, FIRST_STOP);
+            disk.lose(UNLISTED.letters.as_bytes());
+            return Stop::new(disk, UNLISTED.stop);
         };
         disk.lose(loss.letters.as_bytes());
         let cells = disk.into_cells();

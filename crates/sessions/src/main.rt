@@ -27,9 +27,7 @@ fn tell_all(rt: &HostRuntime, bench: &Bench, steps: &[Step]) -> io::Result<()> {
     for step in steps {
         let reply = Shown(step.reply);
         if let Call::Lose = step.call {
-            let Some(loss) = losses.next() else {
-                continue;
-            };
+            let loss = losses.next().unwrap_or(&bench::UNLISTED);
             let last = last_block(loss, tally);
             tally.note_loss(last);
             println!(rt; "{loss}: {reply} | {}", Shown(tally))?;
