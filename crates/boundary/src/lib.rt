@@ -14,6 +14,9 @@ pub const LOOPS: usize = 96;
 
 pub const EDGES: usize = 192;
 
+// Two of each edge.
+pub const HALF_EDGES: u16 = 2 * EDGES as u16;
+
 pub const VERTICES: usize = 128;
 
 // A point in whole 1/256 mm.

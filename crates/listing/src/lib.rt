@@ -7,12 +7,9 @@ ghost use Rattle.boundary.specs.declared.Boundary.{Boundary};
 ghost use Rattle.boundary.specs.Tables.{count};
 ghost use Rattle.listing.specs.Listing.{spaced, counted, counts_text, vertex_line, edge_line, face_line, loop_line, lies_on, smallest, ring, place, row_line, lines, listed};
 
-use boundary::{Boundary, Edge, Face, Loop, Point, half, row};
+use boundary::{Boundary, Edge, Face, HALF_EDGES, Loop, Point, half, row};
 use std::alloc::{AllocError, Global};
 use std::fmt::{self, Display, Formatter, Write};
-
-// Two of each edge.
-const HALF_EDGES: u16 = 384;
 
 // How many rows of each table are used, and the handles.
 #[derive(Clone, Copy)]

@@ -9,7 +9,7 @@ ghost use Rattle.boundary.specs.Tables.{row, half, half_used, lone, outer_of, lo
 ghost use Rattle.solid.specs.Steps.{Decided};
 
 use crate::Solid;
-use crate::ranges::{EdgeNumber, LOOP_PLACES};
+use crate::ranges::{EdgeNumber, Place};
 use crate::rows::{change_all, change_halves, mate, own_run, replaced, set, used};
 use boundary::{Edge, FACES, Face, HalfEdge, Loop, Point, Refusal, Shell, half, row};
 
@@ -110,10 +110,9 @@ impl Solid {
     fn place_used(&self, place: u16) -> bool
         ensures { result ≡ place_used self.now.boundary place }
     {
-        if place < LOOP_PLACES {
-            self.half_used(place)
-        } else {
-            used(&self.boundary.loops, place - LOOP_PLACES)
+        match Place::of(place) {
+            Place::HalfEdge(h) => self.half_used(h),
+            Place::Loop(l) => used(&self.boundary.loops, l),
         }
     }
 
@@ -170,8 +169,10 @@ impl Solid {
     fn faces_in(&self, shell: u16) -> usize
         ensures { result ≡ faces_in self.now.boundary shell }
     {
-        let rows = self.boundary.faces.iter();
-        rows.filter(|row| row.is_some_and(|face| face.shell == shell))
+        self.boundary
+            .faces
+            .iter()
+            .filter(|row| row.is_some_and(|face| face.shell == shell))
             .count()
     }
 
@@ -179,8 +180,10 @@ impl Solid {
     fn loops_in(&self, face: u16) -> usize
         ensures { result ≡ loops_in self.now.boundary face }
     {
-        let rows = self.boundary.loops.iter();
-        rows.filter(|row| row.is_some_and(|own| own.face == face))
+        self.boundary
+            .loops
+            .iter()
+            .filter(|row| row.is_some_and(|own| own.face == face))
             .count()
     }
 
@@ -258,12 +261,13 @@ impl Solid {
         if used(&self.boundary.edges, edge.number) || used(&self.boundary.vertices, vertex) {
             return Err(Refusal::Taken);
         }
-        if place < LOOP_PLACES {
-            self.mev_before(place, edge, vertex, at);
-            return Ok(());
+        match Place::of(place) {
+            Place::HalfEdge(h) => self.mev_before(h, edge, vertex, at),
+            Place::Loop(l) => {
+                let start = self.lone(l).ok_or(Refusal::Condition)?;
+                self.mev_lone(l, start, edge, vertex, at);
+            }
         }
-        let start = self.lone(place - LOOP_PLACES).ok_or(Refusal::Condition)?;
-        self.mev_lone(place - LOOP_PLACES, start, edge, vertex, at);
         Ok(())
     }
 
@@ -346,16 +350,8 @@ impl Solid {
     {
         let first = self.half(x);
         let second = self.half(y);
-        let past_x = if second.next == y {
-            first.next
-        } else {
-            second.next
-        };
-        let past_y = if first.next == x {
-            second.next
-        } else {
-            first.next
-        };
+        let past_x = replaced(second.next, y, first.next);
+        let past_y = replaced(first.next, x, second.next);
         self.join(first.owner, second.owner);
         self.lead(x, past_x);
         self.lead(y, past_y);
@@ -424,25 +420,24 @@ impl Solid {
         Ok(())
     }
 
-    // The loop and the vertex of a place; a loop that is one must have a lone vertex.
+    // The loop of a place.
     fn place_loop(&self, place: u16) -> u16
         ensures { result ≡ place_loop self.now.boundary place }
     {
-        if place < LOOP_PLACES {
-            self.half(place).owner
-        } else {
-            place - LOOP_PLACES
+        match Place::of(place) {
+            Place::HalfEdge(h) => self.half(h).owner,
+            Place::Loop(l) => l,
         }
     }
 
+    // The vertex of a place, which a loop without a lone one has not.
     fn place_vertex(&self, place: u16) -> Option<u16>
         ensures has { is_some result ≡ has_vertex self.now.boundary place }
         ensures is { unwrap_or result 0 ≡ place_vertex self.now.boundary place }
     {
-        if place < LOOP_PLACES {
-            Some(self.half(place).start)
-        } else {
-            self.lone(place - LOOP_PLACES)
+        match Place::of(place) {
+            Place::HalfEdge(h) => Some(self.half(h).start),
+            Place::Loop(l) => self.lone(l),
         }
     }
 
@@ -450,8 +445,8 @@ impl Solid {
     fn lead_place(&mut self, place: u16, x: u16)
         ensures { self.new.boundary ≡ led_place self.old.boundary place x }
     {
-        if place < LOOP_PLACES {
-            self.lead(place, x);
+        if let Place::HalfEdge(h) = Place::of(place) {
+            self.lead(h, x);
         }
     }
 
@@ -561,5 +556,8 @@ fn first_face(faces: &[Option<Face>], shell: u16) -> Option<usize>
 fn onward(place: u16, x: u16) -> u16
     ensures { result ≡ onward place x }
 {
-    if place < LOOP_PLACES { place } else { x }
+    match Place::of(place) {
+        Place::HalfEdge(h) => h,
+        Place::Loop(_) => x,
+    }
 }

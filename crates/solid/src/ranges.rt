@@ -1,14 +1,32 @@
 // Whether the numbers of an edit are in their ranges, and the number of an edge that is.
 ghost use Rattle.std.specs.Prelude.{◌≡◌, ◌+◌, ◌*◌, ◌<◌, ◌&&◌, IsTrue};
 ghost use Rattle.boundary.specs.Operators.{named};
-ghost use Rattle.boundary.specs.Refusals.{below, is_face, is_loop, is_edge, is_vertex, is_coordinate, is_point, is_place, in_range};
+ghost use Rattle.solid.specs.Places.{place_of};
+ghost use Rattle.boundary.specs.Refusals.{below, is_face, is_half, is_loop, is_edge, is_vertex, is_coordinate, is_point, is_place, in_range};
 
-use boundary::{EDGES, Edit, FACES, LOOPS, Point, SHELLS, VERTICES, named};
-
-pub(crate) const HALVES: usize = 2 * EDGES;
+use boundary::{EDGES, Edit, FACES, HALF_EDGES, LOOPS, Point, SHELLS, VERTICES, named};
 
 // A place from here on is the loop that far below it, and one before it is a half-edge.
-pub(crate) const LOOP_PLACES: u16 = 512;
+const LOOP_PLACES: u16 = 512;
+
+// What a place names; a loop that is one must have a lone vertex.
+#[derive(Clone, Copy)]
+pub(crate) enum Place {
+    HalfEdge(u16),
+    Loop(u16),
+}
+
+impl Place {
+    pub(crate) fn of(number: u16) -> Place
+        ensures { result ≡ place_of number }
+    {
+        if number < LOOP_PLACES {
+            Place::HalfEdge(number)
+        } else {
+            Place::Loop(number - LOOP_PLACES)
+        }
+    }
+}
 
 // The number of an edge, small enough that its half-edges have numbers too.
 #[derive(Clone, Copy)]
@@ -47,10 +65,17 @@ fn below(field: i32, count: usize) -> bool
     usize::try_from(field).is_ok_and(|k| k < count)
 }
 
+fn is_half(field: i32) -> bool
+    ensures { result ≡ is_half field }
+{
+    (0..i32::from(HALF_EDGES)).contains(&field)
+}
+
 fn is_place(field: i32) -> bool
     ensures { result ≡ is_place field }
 {
-    below(field, HALVES) || (512..608).contains(&field)
+    let loops = i32::from(LOOP_PLACES);
+    is_half(field) || (loops..loops + LOOPS as i32).contains(&field)
 }
 
 fn is_coordinate(x: i32) -> bool
@@ -97,18 +122,16 @@ pub(crate) fn in_range(edit: Edit) -> bool
             vertex,
             at,
         } => is_place(place) && below(edge, EDGES) && is_vertex(vertex, at),
-        Edit::Kev { half } => below(half, HALVES),
+        Edit::Kev { half } => is_half(half),
         Edit::Mef {
             from,
             to,
             edge,
             face,
             outer,
-        } => {
-            below(from, HALVES) && below(to, HALVES) && below(edge, EDGES) && is_face(face, outer)
-        }
-        Edit::Kef { half } => below(half, HALVES),
-        Edit::Kemr { half, inner } => below(half, HALVES) && below(inner, LOOPS),
+        } => { is_half(from) && is_half(to) && below(edge, EDGES) && is_face(face, outer) }
+        Edit::Kef { half } => is_half(half),
+        Edit::Kemr { half, inner } => is_half(half) && below(inner, LOOPS),
         Edit::Mekr { to, inner, edge } => is_place(to) && is_place(inner) && below(edge, EDGES),
         Edit::Kfmrh { kept, killed } => below(kept, FACES) && below(killed, FACES),
         Edit::Move { vertex, at } => is_vertex(vertex, at),

@@ -6,8 +6,7 @@ ghost use Rattle.boundary.specs.Operators.{edge};
 ghost use Rattle.boundary.specs.declared.HalfEdge.{HalfEdge};
 ghost use Rattle.boundary.specs.Tables.{used, mate, next_in, run};
 
-use crate::ranges::HALVES;
-use boundary::{Edge, HalfEdge, half, row};
+use boundary::{Edge, HALF_EDGES, HalfEdge, half, row};
 
 // The other half of the edge of `h`.
 pub(crate) fn mate(h: u16) -> u16
@@ -90,7 +89,7 @@ pub(crate) fn own_run(edges: &mut [Option<Edge>], from: u16, to: u16, l: u16)
     ensures { edges.new ≡ owned_in edges.old (run (next_in edges.old) 384 from to) l }
 {
     let mut h = from;
-    for _ in 0..HALVES {
+    for _ in 0..HALF_EDGES {
         if h == to {
             return;
         }
