@@ -125,7 +125,7 @@ fn tell(rt: &HostRuntime, title: &str, answers: &[Answer]) -> io::Result<()> {
     for answer in answers {
         print!(rt; " {answer}")?;
     }
-    println!(rt; "")
+    println!(rt)
 }
 
 fn trial(rt: &HostRuntime, stops: (u32, u32), letters: &str, next: Option<u32>) -> io::Result<()> {

@@ -20,7 +20,7 @@ const BLOCKS: usize = 8;
 
 // Nothing is journaled yet, on eight blocks.
 const NOTHING: Extent = Extent {
-    count: 8,
+    count: BLOCKS as u16,
     batches: 0,
     tail: 0,
 };
@@ -112,8 +112,8 @@ impl Waits {
         let mut rest = number;
         for (letter, waits) in letters.iter_mut().zip(self.0.iter()).rev() {
             if *waits {
-                *letter = Some(LETTERS[rest % 3]);
-                rest /= 3;
+                *letter = Some(LETTERS[rest % LETTERS.len()]);
+                rest /= LETTERS.len();
             }
         }
         Choice(letters)

@@ -3,7 +3,8 @@ use Rattle.std.specs.Prelude.{◌≡◌, ℕ, zero, suc, ◌+◌, ◌<◌, ◌�
 use Rattle.std.proofs.Common.{sym, ap, subst, ◌∙◌, inl, inr, arith}
 use Rattle.std.proofs.Math.Decide.{ℕ_discrete}
 use Rattle.std.proofs.lemmas.List.{append-nil, append_assoc, take_all, drop_all, take_more, drop_more, set_at, get_or_at, length-take-le, get_or-set_same, get_or-set_other, map-set, length-map, length-set, set_past, length-replicate, get_or-replicate}
-use Rattle.std.proofs.lemmas.Option.{slice_get-get_or}
+use Rattle.std.proofs.lemmas.Option.{get_or_from_slice_get, slice_get_within}
+use Rattle.std.proofs.Math.ListN.{get_or-map}
 use Rattle.std.specs.List.{slice_get}
 use Rattle.std.specs.Option.{unwrap_or, ok_or}
 use Rattle.disk.specs.declared.Content.{Content}
@@ -16,11 +17,6 @@ use Rattle.disk.specs.Rule.{Allowed, Same, Settled, Gains}
 use Rattle.disk.specs.Contents.{zeros}
 use Rattle.disk.specs.Losses.{AfterLoss, Blank}
 use Rattle.disk.specs.Settlings.{read_cell, still, no_cell, read_all, MayStand, May, read_answer, write_answer, written, write_at, settle_cell, Went, lost_cell, changed, lost, blank_cells}
-
-pub get_or_map_all : {A B : Type 0} (f : A → B) (xs : List A) (k : ℕ) (d : A) → slice_index_or (map f xs) k (f d) ≡ f (slice_index_or xs k d)
-get_or_map_all f [] k d = refl
-get_or_map_all f (x ∷ xs) zero d = refl
-get_or_map_all f (x ∷ xs) (suc k) d = get_or_map_all f xs k d
 
 may_read : (a : Cell) → MayStand a (read_cell a)
 may_read a = go a.waiting
@@ -38,13 +34,8 @@ settle_reads [] = refl
 settle_reads (a ∷ cs) = ap (λ l. read_cell a ∷ l) (settle_reads cs)
 
 -- what stands at a place of a list
-pub nth_within : {X : Type 0} (xs : List X) (k : ℕ) (x : X) → slice_get xs k ≡ Some x → k < length xs
-nth_within [] k x e = let z : ◌≡◌ {A = ℕ} 0 1 = cc in absurd (omega arith)
-nth_within (y ∷ xs) zero x e = omega arith
-nth_within (y ∷ xs) (suc k) x e = let h = nth_within xs k x e in omega arith
-
 pub nth_is : (cs : List Cell) (k : ℕ) (a : Cell) → slice_get cs k ≡ Some a → a ≡ slice_index_or cs k no_cell
-nth_is cs k a e = let h = slice_get-get_or cs k no_cell (nth_within cs k a e) in cc
+nth_is cs k a e = sym (get_or_from_slice_get cs k a no_cell e)
 
 pub nth_none : {X : Type 0} (xs : List X) (k : ℕ) → slice_get xs k ≡ None → length xs ≤ k
 nth_none [] k e = omega arith
@@ -74,7 +65,7 @@ module _ {L : Type 0} (under : L → List Cell) where
   long x = length-map (under x) read_cell
 
   pub settling_stands : (x : L) (k : ℕ) → k < length (reads' x) → may' x k (slice_index_or (reads' x) k Unreadable)
-  settling_stands x k lt = (omega (arith, lt, long x), subst (MayStand (slice_index_or (under x) k no_cell)) (sym (get_or_map_all read_cell (under x) k no_cell)) (may_read (slice_index_or (under x) k no_cell)))
+  settling_stands x k lt = (omega (arith, lt, long x), subst (MayStand (slice_index_or (under x) k no_cell)) (sym (get_or-map read_cell (under x) k no_cell)) (may_read (slice_index_or (under x) k no_cell)))
 
   same : (x y : L) → under y ≡ under x → Same reads' may' x y
   same x y e = record {
@@ -101,15 +92,15 @@ module _ {L : Type 0} (under : L → List Cell) where
   settled : (x y : L) → under y ≡ map settle_cell (under x) → Settled reads' may' x y
   settled x y e = record {
     as_read = ap read_all e ∙ settle_reads (under x);
-    only = λ k c m. may_still _ c (subst (λ a. MayStand a c) (ap (λ cs. get_or cs k no_cell) e ∙ get_or_map_all settle_cell (under x) k no_cell) m.1) ∙ sym (get_or_map_all read_cell (under x) k no_cell);
+    only = λ k c m. may_still _ c (subst (λ a. MayStand a c) (ap (λ cs. get_or cs k no_cell) e ∙ get_or-map settle_cell (under x) k no_cell) m.1) ∙ sym (get_or-map read_cell (under x) k no_cell);
   }
 
   read_keeps : (x y : L) (k : ℕ) (o : Option Cell) → slice_get (under x) k ≡ o → under y ≡ under x → Allowed reads' may' gone' x (reading k (read_answer k o)) y
-  read_keeps x y k (Some a) n e = (omega (arith, nth_within (under x) k a n, long x), refl, ap read_cell (nth_is (under x) k a n) ∙ sym (get_or_map_all read_cell (under x) k no_cell), same x y e)
+  read_keeps x y k (Some a) n e = (omega (arith, slice_get_within (under x) k a n, long x), refl, ap read_cell (nth_is (under x) k a n) ∙ sym (get_or-map read_cell (under x) k no_cell), same x y e)
   read_keeps x y k None n e = (omega (arith, nth_none (under x) k n, long x), refl, refl, same x y e)
 
   write_keeps : (x y : L) (k : ℕ) (bs : List ℕ) (o : Option Cell) → slice_get (under x) k ≡ o → under y ≡ write_at (under x) k bs → Allowed reads' may' gone' x (writing k bs (write_answer k o)) y
-  write_keeps x y k bs (Some a) n e = (omega (arith, nth_within (under x) k a n, long x), refl, ap read_all e ∙ map-set read_cell (under x) k (written (slice_index_or (under x) k no_cell) bs), gains x y k bs (nth_within (under x) k a n) e)
+  write_keeps x y k bs (Some a) n e = (omega (arith, slice_get_within (under x) k a n, long x), refl, ap read_all e ∙ map-set read_cell (under x) k (written (slice_index_or (under x) k no_cell) bs), gains x y k bs (slice_get_within (under x) k a n) e)
   write_keeps x y k bs None n e = (omega (arith, nth_none (under x) k n, long x), refl, refl, same x y (e ∙ set_past (under x) k _ (nth_none (under x) k n)))
 
   pub settling_keeps : (x : L) (c : Call) (y : L) → Went (under x) c (under y) → Allowed reads' may' gone' x c y

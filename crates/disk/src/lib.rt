@@ -24,7 +24,7 @@ ghost use Rattle.disk.specs.SettlingsLemmas.{settling_stands, settling_keeps};
 const NO_BLOCK: usize = 65_535;
 
 // What a block reads.
-#[derive(Clone, Copy)]
+#[derive(Clone, Copy, PartialEq, Eq, Debug)]
 pub enum Content {
     Bytes([u8; 32]),
     Unreadable,
@@ -43,7 +43,7 @@ impl Content {
 }
 
 // The part of the program that a fault comes from.
-#[derive(Clone, Copy)]
+#[derive(Clone, Copy, PartialEq, Eq, Debug)]
 pub enum Layer {
     Disk,
     Journal,
@@ -52,14 +52,14 @@ pub enum Layer {
 }
 
 // Why a disk did not serve a call, with the block that it named; a flush names none.
-#[derive(Clone, Copy)]
+#[derive(Clone, Copy, PartialEq, Eq, Debug)]
 pub enum DiskFault {
     PowerGone(Option<u32>),
     NoSuchBlock(u32),
 }
 
 // What a fault tells whoever is answered by it.
-#[derive(Clone, Copy)]
+#[derive(Clone, Copy, PartialEq, Eq, Debug)]
 pub struct Told {
     pub number: u32,
     pub layer: Layer,
@@ -300,8 +300,8 @@ impl Cell {
         ensures { result ≡ written self bytes }
     {
         Cell {
-            settled: self.settled,
             waiting: Some(Content::Bytes(bytes)),
+            ..self
         }
     }
 

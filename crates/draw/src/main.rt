@@ -6,7 +6,9 @@ use std::io::Read;
 
 fn main(rt: HostRuntime) -> io::Result<()> {
     let mut input = Vec::new(rt.alloc());
-    rt.stdin().take(32768).read_to_end(&mut input)?;
+    rt.stdin()
+        .take(drawing::LIMIT as u64)
+        .read_to_end(&mut input)?;
     let text = drawing::draw(rt.alloc(), input.as_slice())?;
     rt.print(text.as_str())
 }

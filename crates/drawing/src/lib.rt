@@ -16,7 +16,7 @@ use std::fmt;
 use words::{Line, Lines, Token};
 
 // Only so many bytes of an input are looked at.
-const LIMIT: usize = 32768;
+pub const LIMIT: usize = 32768;
 
 #[derive(Clone, Copy)]
 enum Operator {

@@ -13,7 +13,7 @@ use disk::{DiskFault, Fault, Layer, Told};
 pub const MOST: usize = 16;
 
 // Why an edit did not join a batch.
-#[derive(Clone, Copy)]
+#[derive(Clone, Copy, PartialEq, Eq, Debug)]
 pub enum SolidFault {
     // the solid refuses the edit, which is at this position of its batch
     Refused { why: Refusal, position: u32 },
@@ -38,7 +38,7 @@ impl Fault for SolidFault {
 }
 
 // Why the journal was not read, or a batch not appended.
-#[derive(Clone, Copy)]
+#[derive(Clone, Copy, PartialEq, Eq, Debug)]
 pub enum JournalFault {
     // a call of the disk was refused
     Disk(DiskFault),
@@ -80,7 +80,7 @@ impl Fault for JournalFault {
 }
 
 // Why a call of a session was refused: by its journal, or by its solid.
-#[derive(Clone, Copy)]
+#[derive(Clone, Copy, PartialEq, Eq, Debug)]
 pub enum SessionFault {
     FromJournal(JournalFault),
     FromSolid(SolidFault),

@@ -22,7 +22,7 @@ use solid::Solid;
 mod draft;
 
 // How far a journal has come: the blocks of its disk, the whole batches, and the first block behind them.
-#[derive(Clone, Copy)]
+#[derive(Clone, Copy, PartialEq, Eq, Debug)]
 pub struct Extent {
     pub count: u16,
     pub batches: u32,
@@ -128,7 +128,7 @@ fn read_blocks<D: Disk>(disk: &mut D) -> Result<Reader, JournalFault>
     ensures { Read D.Disk.reads D.Disk.did disk.old result disk.new }
 {
     let count = disk.size();
-    if count < LEAST_BLOCKS || MOST_BLOCKS < count {
+    if !(LEAST_BLOCKS..=MOST_BLOCKS).contains(&count) {
         return Err(JournalFault::BadSize(count));
     }
     let mut reader = Reader::new(count as u16);
@@ -196,8 +196,8 @@ pub fn append<D: Disk>(disk: &mut D, extent: Extent, batch: &Draft) -> Result<Ex
     let number = extent.batches.saturating_add(1);
     write_batch(disk, number, tail, batch)?;
     Ok(Extent {
-        count: extent.count,
         batches: number,
         tail: end as u16,
+        ..extent
     })
 }

@@ -90,7 +90,7 @@ mod tests {
             Err(fault) => {
                 assert_eq!(rt; fault.number(), number);
                 assert_eq!(rt; fault.place(), place);
-                assert!(rt; matches!(fault.layer(), Layer::Journal));
+                assert_eq!(rt; fault.layer(), Layer::Journal);
                 Ok(())
             }
         }

@@ -6,7 +6,7 @@ use runs::{Step, Supply};
 use std::fmt::{self, Display, Formatter, Write};
 
 // How many blocks the disk has.
-const BLOCKS: usize = 16;
+pub const BLOCKS: usize = 16;
 
 // The stop of the first disk, and of one behind the losses of the table.
 pub const FIRST_STOP: u32 = 999;

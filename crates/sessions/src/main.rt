@@ -47,6 +47,6 @@ fn main(rt: HostRuntime) -> io::Result<()> {
     });
     let mut bench = Bench::new();
     bench::play(&mut bench, &mut steps);
-    println!(rt; "disk of 16 blocks, stop {stop}")?;
+    println!(rt; "disk of {} blocks, stop {stop}", bench::BLOCKS)?;
     tell_all(&rt, &bench, &steps)
 }

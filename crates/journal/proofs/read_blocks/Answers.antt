@@ -1,4 +1,4 @@
-use Rattle.std.proofs.Common.{◌≡◌, ◌<◌, length, get_or, refl, ap, ◌∙◌, subst, arith}
+use Rattle.std.proofs.Common.{◌≡◌, ◌<◌, length, get_or, refl, ap, ◌∙◌, subst, arith, rules}
 use Rattle.std.proofs.lemmas.List.{take_all}
 use Rattle.std.proofs.lemmas.Result.{err_from_is_err_and}
 use Rattle.disk.specs.declared.Content.TheVariants.{Unreadable}
@@ -25,7 +25,7 @@ returns-in_err-content g c =
     let a = g.met.D.Disk.keeps _ _ _ c.in_err-content.ensures in
     let lt : c.loop-k.k < length (g.D.Disk.reads c.args.disk.now) = omega (arith, c.loop-k-test.true, c.size-count.ensures) in
     rw (p.1, p.2) (
-      record { low = omega arith; high = omega arith },
+      record { low = search rules; high = search rules },
       c.loop-k.k,
       lt,
       read_cut g.D.Disk.reads g.D.Disk.may g.D.Disk.gone c.loop-k.disk c.read.new.self c.loop-k.k c.in_err-content.field-0.0 (omega (arith, ap length c.loop-k.invariant.same)) a,
@@ -41,7 +41,7 @@ returns-in_err-advance g c =
     let is = a.2 ∙ ap (λ cs. get_or cs c.loop-k.k Unreadable) c.loop-k.invariant.same in
     rw (p.1, p.2)
     (failed_at g.D.Disk.reads g.D.Disk.did c.loop-k.k c.in_ok-content.content c.record_in.result c.loop-k.reader c.advance.new.self c.in_err-advance.field-0.0
-    (record { low = omega arith; high = omega arith }) lt is c.record_in.ensures c.loop-k.invariant.seen c.in_err-advance.ensures
+    (record { low = search rules; high = search rules }) lt is c.record_in.ensures c.loop-k.invariant.seen c.in_err-advance.ensures
     (read_more (g.D.Disk.reads c.args.disk.now) c.loop-k.k c.in_ok-content.content lt is c.record_in.result c.record_in.ensures c.loop-k.invariant.calls c.in_ok-content.ensures))
 
 pub loop-k-preserved : goal.loop-k-preserved
@@ -62,7 +62,7 @@ pub returns : goal.returns
 returns g c =
     let all = take_all c.loop-k.k (g.D.Disk.reads c.args.disk.now) (omega (arith, c.loop-k-test.false, c.size-count.ensures)) in (
       record {
-        size = record { low = omega arith; high = omega arith };
+        size = record { low = search rules; high = search rules };
         calls = subst (λ l. Chain g.D.Disk.did c.args.disk.now (served_reads 0 l) c.loop-k.disk) all c.loop-k.invariant.calls;
         is = subst (λ l. opening l ≡ Rattle.std.specs.declared.result.Result.TheVariants.Ok (found_so_far c.loop-k.reader)) all (seen_opening (g.D.Disk.reads c.args.disk.now) c.loop-k.k c.loop-k.reader c.loop-k.invariant.seen);
       },
