@@ -12,29 +12,33 @@ use Rattle.disk.specs.Chains.{Chain, none, first}
 use Rattle.disk.specs.Settlings.{Went, read_all}
 use Rattle.disk.specs.Stops.{Stopped}
 use Rattle.disk.specs.Behind.{BehindStop}
+use Rattle.disk.proofs.Behind as behind
 use Rattle.disk.proofs.Maps.{chain_map, stopped_map}
 use Rattle.bench.specs.Lives.{BehindTwo}
 
+abbrev lent : Lent → List Cell
+lent l = l.cells.now
+
 abbrev pub lent_cells : Settling Lent → List Cell
-lent_cells w = w.cells.cells.now
+lent_cells = behind.cells_of lent
 
 abbrev pub stopped_once : Stop (Settling Lent) → List Cell × ℕ
-stopped_once u = (lent_cells u.disk, u.left)
+stopped_once = behind.stopped_once lent
 
 abbrev pub stopped_twice : Stop (Stop (Settling Lent)) → (List Cell × ℕ) × ℕ
 stopped_twice s = (stopped_once s.disk, s.left)
 
 abbrev pub DidPlain : Settling Lent → Call → Settling Lent → Type 0
-DidPlain w c x = Went (lent_cells w) c (lent_cells x)
+DidPlain = behind.DidPlain lent
 
 abbrev pub DidOnce : Stop (Settling Lent) → Call → Stop (Settling Lent) → Type 0
-DidOnce u c v = Stopped (λ w. read_all (lent_cells w)) DidPlain u.disk u.left c v.disk v.left
+DidOnce = behind.DidOnce lent
 
 abbrev pub DidTwice : Stop (Stop (Settling Lent)) → Call → Stop (Stop (Settling Lent)) → Type 0
 DidTwice s c t = Stopped (λ u. read_all (lent_cells u.disk)) DidOnce s.disk s.left c t.disk t.left
 
 once : (u : Stop (Settling Lent)) (c : Call) (v : Stop (Settling Lent)) → DidOnce u c v → BehindStop (stopped_once u) c (stopped_once v)
-once u c v w = stopped_map lent_cells DidPlain Went (λ d c e x. x) read_all u.disk u.left c v.disk v.left w
+once = behind.once lent
 
 twice : (s : Stop (Stop (Settling Lent))) (c : Call) (t : Stop (Stop (Settling Lent))) → DidTwice s c t → BehindTwo (stopped_twice s) c (stopped_twice t)
 twice s c t w = stopped_map stopped_once DidOnce BehindStop once (λ u. read_all u.0) s.disk s.left c t.disk t.left w

@@ -13,10 +13,11 @@ use Rattle.faults.specs.declared.SolidFault.{SolidFault}
 use Rattle.faults.specs.declared.JournalFault.{JournalFault}
 use Rattle.faults.specs.declared.JournalFault.TheVariants.{Disk, NoEdits, Full, BadSize, Unfit}
 use Rattle.standing.specs.Batches.{blocks, InRange}
-use Rattle.standing.specs.Openings.{Found, applied_all, position_of, outcome}
+use Rattle.standing.specs.Openings.{Found, applied_all, outcome}
 use Rattle.standing.specs.Plans.{served_reads, plan, Carried}
 use Rattle.standing.specs.Journals.{Reads, Appendable, Kept, looked, appended, cut}
 use Rattle.standing.proofs.Layouts.{few_blocks, blocks_more}
+use Rattle.standing.proofs.Openings.{found_after}
 use Rattle.standing.proofs.Journals.{kept_left}
 use Rattle.journal.specs.declared.Extent.{Extent}
 use Rattle.journal.specs.Readings.{Failed, Looked}
@@ -31,15 +32,12 @@ reads_cut : (k : ℕ) (cs : List Content) (j : ℕ) (f : DiskFault) → Reads (s
 reads_cut k [] j f = tt
 reads_cut k (c ∷ cs) j f = reads_cut (k + 1) cs j f
 
-abbrev then_by : ℕ → ℕ → List Edit → List (List Edit) → Result Boundary SolidFault → Result Found JournalFault
-then_by t n es bs r = elim r [ Ok b ↦ outcome (t + length es + 1) (n + 1) b bs | Err f ↦ Err (Unfit (t + position_of f) f) ]
-
 -- where no edit is refused the batches are all counted
 outcome_counts : (t n : ℕ) (b : Boundary) (bs : List (List Edit)) (f : Found) → outcome t n b bs ≡ Ok f → (f.batches ≡ n + length bs) × (f.tail ≡ t + blocks bs)
 outcome_counts t n b [] f h = let q : f ≡ record { boundary = b; batches = n; tail = t } = cc in (ap (λ x. x.batches) q ∙ omega arith, ap (λ x. x.tail) q ∙ omega arith)
 outcome_counts t n b (es ∷ bs) f h = go (applied_all b 0 es) h (λ b'. outcome_counts (t + length es + 1) (n + 1) b' bs f)
   where
-    go : (r : Result Boundary SolidFault) → then_by t n es bs r ≡ Ok f → ((b' : Boundary) → outcome (t + length es + 1) (n + 1) b' bs ≡ Ok f → (f.batches ≡ n + 1 + length bs) × (f.tail ≡ t + length es + 1 + blocks bs)) → (f.batches ≡ n + suc (length bs)) × (f.tail ≡ t + (length es + 1 + blocks bs))
+    go : (r : Result Boundary SolidFault) → found_after t n es bs r ≡ Ok f → ((b' : Boundary) → outcome (t + length es + 1) (n + 1) b' bs ≡ Ok f → (f.batches ≡ n + 1 + length bs) × (f.tail ≡ t + length es + 1 + blocks bs)) → (f.batches ≡ n + suc (length bs)) × (f.tail ≡ t + (length es + 1 + blocks bs))
     go (Ok b') h more = let p = more b' h in (omega (arith, p.0), omega (arith, p.1))
     go (Err w) h more = let z : ◌≡◌ {A = ℕ} 0 1 = cc in absurd (omega arith)
 

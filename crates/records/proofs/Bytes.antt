@@ -88,7 +88,8 @@ signed_quad z f = ap signed (from_le_bytes-to_le_bytes_4 (complement z) (complem
     complement_small (pos n) f = omega (arith, f.sfits)
     complement_small (negsuc n) f = omega (arith, f.sfits)
 
-abbrev whole : ℕ → ℕ → ℕ → ℕ → List ℕ → ℕ → Point → Block
+-- the parts of a block, put together
+abbrev pub whole : ℕ → ℕ → ℕ → ℕ → List ℕ → ℕ → Point → Block
 whole k s n p f g q = record { kind = k; spare = s; number = n; position = p; fields = f; gap = g; at = q }
 
 -- what holds where the five fields are written out holds of the block

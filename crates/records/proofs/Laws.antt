@@ -10,7 +10,7 @@ use Rattle.records.specs.declared.Record.TheVariants.{Change, Closing}
 use Rattle.records.specs.Blocks.{laid, parts, two_at, four_at, fields_at, point_at}
 use Rattle.records.specs.Laws.{Fit, Numbered, IsBlock, Parted, RecordsStand}
 use Rattle.records.specs.Records.{block_of, bytes_of, used_fields, has_point, zero_past, is_origin, rest_zero, numbered, edit_of, is_change, is_closing, meaning, record_of}
-use Rattle.records.proofs.Bytes.{Small, small, laid_parts, parts_laid, laid_block}
+use Rattle.records.proofs.Bytes.{Small, small, whole, laid_parts, parts_laid, laid_block}
 use Rattle.records.proofs.Bytes.{fields_small as read_small}
 use Rattle.records.proofs.Decoding.{meant, change_meant, closing_meant}
 use Rattle.records.proofs.Edits.{kind_back, fields_back, point_back, first_same, all_zero, point_same, edit_back, kind_bounds, five_fields, fields_small, edit_near, origin_near}
@@ -39,10 +39,6 @@ round (Change n p e) h =
 round (Closing n c) h =
     ap meaning (parts_laid (block_of (Closing n c)) (record { number = h.1; position = omega (arith, h.0.2); fields = small (block_of (Closing n c)).fields refl (lit< tt, (lit< tt, (lit< tt, (lit< tt, (lit< tt, tt))))); gap = lit< tt; at = origin_near }))
     ∙ closing_meant (block_of (Closing n c)) refl (within 1 16 (block_of (Closing n c)) h.0.0 h.0.1 h.0.2) refl
-
--- the parts of a block, put together
-abbrev whole : ℕ → ℕ → ℕ → ℕ → List ℕ → ℕ → Point → Block
-whole k s n p f g q = record { kind = k; spare = s; number = n; position = p; fields = f; gap = g; at = q }
 
 same_block : {k k' s s' : ℕ} (n p : ℕ) {f f' : List ℕ} {g g' : ℕ} {q q' : Point} → k ≡ k' → s ≡ s' → f ≡ f' → g ≡ g' → q ≡ q' → whole k s n p f g q ≡ whole k' s' n p f' g' q'
 same_block n p ek es ef eg eq = cc

@@ -71,7 +71,7 @@ extent_of (Ok x) h = (x, refl)
 extent_of (Err y) h = let z : ◌≡◌ {A = ℕ} 0 1 = cc in absurd (omega arith)
 
 -- the ledger with these batches, at this stage
-abbrev led : List (List Edit) → Option (List Edit) → Stage → Ledger
+abbrev pub led : List (List Edit) → Option (List Edit) → Stage → Ledger
 led a q st = record { acknowledged = a; doubt = q; stage = st }
 
 module _ {S : Type 0} (reads : S → List Content) (may : S → ℕ → Content → Type 0) (gone : S → Bool) (did : S → DiskCall → S → Type 0)

@@ -51,7 +51,7 @@ accepted_all b i (e ∷ es) a =
     ∙ accepted_all (after b e) (i + 1) es a.1
 
 -- what is found where the edits of the first batch gave r
-abbrev found_after : ℕ → ℕ → List Edit → List (List Edit) → Result Boundary SolidFault → Result Found JournalFault
+abbrev pub found_after : ℕ → ℕ → List Edit → List (List Edit) → Result Boundary SolidFault → Result Found JournalFault
 found_after t n es bs r = elim r [ Ok b ↦ outcome (t + length es + 1) (n + 1) b bs | Err fault ↦ Err (Unfit (t + position_of fault) fault) ]
 
 abbrev found_at : Boundary → ℕ → ℕ → Result Found JournalFault

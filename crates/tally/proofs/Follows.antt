@@ -21,12 +21,9 @@ use Rattle.runs.specs.declared.Reply.{Reply}
 use Rattle.runs.specs.declared.Reply.TheVariants.{Kept, Refused}
 use Rattle.runs.specs.Ledgers.{Ledger, Stage, idle, in_session, in_batch, built, staged, carried, after_at, after_call, after_loss}
 use Rattle.runs.specs.Laws.{open_told, draft_told, carried_told, foretold}
+use Rattle.runs.proofs.Agreements.{led}
 use Rattle.tally.specs.declared.Tally.{Tally}
 use Rattle.tally.specs.Tallies.{tally_of, sum, noted, by_open, by_edit, by_commit, lost, lost_by, at_rest, acknowledged, with_begun, doubtful}
-
--- the ledger with these batches, at this stage
-abbrev led : List (List Edit) → Option (List Edit) → Stage → Ledger
-led a q st = record { acknowledged = a; doubt = q; stage = st }
 
 -- one batch more, in counts
 tally_eq : {b b' t t' : ℕ} {o o' p p' : Option ℕ} {f f' : Bool} → b ≡ b' → t ≡ t' → o ≡ o' → p ≡ p' → f ≡ f'
