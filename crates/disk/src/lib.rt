@@ -15,6 +15,7 @@ ghost use Rattle.disk.specs.Rule.{Allowed};
 ghost use Rattle.disk.specs.Settlings.{May, Went, blank_cells, changed, lost, lost_cell, read_all, read_cell, settle_cell, still, written};
 ghost use Rattle.disk.specs.Stops.{Stopped, counted, found, left_found, stop_gone};
 ghost use Rattle.std.specs.List.{slice_get};
+ghost use Rattle.std.specs.Option.{unwrap_or};
 ghost use Rattle.disk.specs.StopsLemmas.{stop_keeps};
 ghost use Rattle.std.proofs.Common.{rules};
 ghost use Rattle.disk.specs.EithersLemmas.{either_stands, either_keeps};
@@ -311,12 +312,12 @@ impl Cell {
         Cell::still(self.read())
     }
 
-    fn after_loss(self, letter: u8) -> Cell
-        ensures { result ≡ lost_cell letter self }
+    fn after_loss(self, letter: Option<u8>) -> Cell
+        ensures { result ≡ lost_cell (unwrap_or letter 0) self }
     {
         match (self.waiting, letter) {
-            (Some(newest), b'n') => Cell::still(newest),
-            (Some(_), b'u') => Cell::still(Content::Unreadable),
+            (Some(newest), Some(b'n')) => Cell::still(newest),
+            (Some(_), Some(b'u')) => Cell::still(Content::Unreadable),
             _ => Cell::still(self.settled),
         }
     }
@@ -440,7 +441,7 @@ impl<C: Cells> Settling<C> {
         ensures is { C.Cells.held self.new.cells ≡ lost letters.now (C.Cells.held self.old.cells) }
         ensures after { AfterLoss (λ s. read_all (C.Cells.held s.cells)) (λ s. May (C.Cells.held s.cells)) self.old self.new }
     {
-        self.change_all(|k, cell| cell.after_loss(letters.get(k).copied().unwrap_or(0)));
+        self.change_all(|k, cell| cell.after_loss(letters.get(k).copied()));
     }
 
     fn settle(&mut self)
