@@ -24,7 +24,7 @@ pub struct Loss {
 }
 
 // The stops cut the last flush of a commit, the write of a closing record, or a read.
-const LOSSES: [Loss; 5] = [
+pub const LOSSES: [Loss; 5] = [
     Loss {
         letters: "s",
         stop: 19,
@@ -70,12 +70,6 @@ pub const UNLISTED: Loss = Loss {
 #[derive(Clone, Copy)]
 pub struct Bench {
     pub losses: [Loss; 5],
-}
-
-impl Bench {
-    pub fn new() -> Bench {
-        Bench { losses: LOSSES }
-    }
 }
 
 impl Supply for Bench {

@@ -45,7 +45,9 @@ fn main(rt: HostRuntime) -> io::Result<()> {
         call,
         reply: Reply::NotNow,
     });
-    let mut bench = Bench::new();
+    let mut bench = Bench {
+        losses: bench::LOSSES,
+    };
     bench::play(&mut bench, &mut steps);
     println!(rt; "disk of {} blocks, stop {stop}", bench::BLOCKS)?;
     tell_all(&rt, &bench, &steps)
