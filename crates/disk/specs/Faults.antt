@@ -22,5 +22,6 @@ fault_place (PowerGone (Some k)) = k
 fault_place (PowerGone None) = 65535
 fault_place (NoSuchBlock p) = p
 
+-- all three, as whoever is answered is told
 abbrev pub disk_told : DiskFault → Told
 disk_told fault = record { number = fault_number fault; layer = fault_layer fault; place = fault_place fault }

@@ -1,7 +1,7 @@
 // A disk of 32-byte blocks, the rule that every make of it keeps, and three makes.
 #![tactic(auto)]
 
-ghost use Rattle.std.specs.Prelude.{◌≡◌, ℕ, ◌-◌, ◌<◌, Bool, false, List, map, length, slice_index, slice_index_or, slice_set};
+ghost use Rattle.std.specs.Prelude.{◌≡◌, ℕ, ◌-◌, ◌<◌, Bool, false, List, map, length, slice_index_or, slice_set};
 ghost use Rattle.disk.specs.Calls.{Call, flushing, reading, writing};
 ghost use Rattle.disk.specs.Contents.{bytes_of, zeros};
 ghost use Rattle.disk.specs.declared.Cell.{Cell};

@@ -1,7 +1,7 @@
 // The journal on a disk: reading the whole batches that stand, and appending one more.
 #![tactic(auto)]
 
-ghost use Rattle.std.specs.Prelude.{◌≡◌, ◌+◌, ◌<◌, ◌≤◌, false, List, [], length, Some, None, Ok, Err, Option};
+ghost use Rattle.std.specs.Prelude.{◌≡◌, ◌+◌, ◌<◌, ◌≤◌, List, length, Some, None, Option};
 ghost use Rattle.journal.specs.Appends.{Appends};
 ghost use Rattle.journal.specs.Drafts.{drafted};
 ghost use Rattle.journal.specs.Lives.{AppendsOn, ExtentOf, ReadsOn};
@@ -10,7 +10,7 @@ ghost use Rattle.boundary.specs.declared.Edit.{Edit};
 ghost use Rattle.standing.specs.Batches.{InRange};
 ghost use Rattle.standing.specs.Journals.{Kept};
 ghost use Rattle.standing.specs.Plans.{Carried, plan};
-ghost use Rattle.records.specs.declared.Record.TheVariants.{Change, Closing};
+ghost use Rattle.records.specs.declared.Record.TheVariants.{Closing};
 
 use boundary::Edit;
 use disk::{Disk, DiskFault, Fault};

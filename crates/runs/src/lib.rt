@@ -5,7 +5,6 @@ ghost use Rattle.std.specs.Prelude.{◌≡◌, ◌≤◌, map, length};
 ghost use Rattle.disk.specs.Losses.{AfterLoss, Blank};
 ghost use Rattle.runs.specs.Laws.{KeptBy, call_of};
 ghost use Rattle.runs.specs.Steps.{Stepped, disk_of};
-ghost use Rattle.runs.specs.declared.Call.TheVariants.{Abandon, Apply, Begin, Close, Commit, Lose, Open};
 
 use boundary::Edit;
 use disk::Disk;

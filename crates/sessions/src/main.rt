@@ -41,7 +41,7 @@ fn tell_all(rt: &HostRuntime, bench: &Bench, steps: &[Step]) -> io::Result<()> {
 
 fn main(rt: HostRuntime) -> io::Result<()> {
     let stop = bench::FIRST_STOP;
-    let mut steps = list::calls().map(|call| Step {
+    let mut steps = list::CALLS.map(|call| Step {
         call,
         reply: Reply::NotNow,
     });
