@@ -95,7 +95,7 @@ impl Reader {
         requires { Within self.old 1000 }
         ensures { Advanced self.old «record» result self.new }
     {
-        let Some(mut draft) = self.draft else {
+        let Some(draft) = &mut self.draft else {
             return Ok(());
         };
         let batch = self.extent.batches + 1;
@@ -108,12 +108,15 @@ impl Reader {
                     edit,
                 },
             ) if number == batch && position as usize == next => {
-                self.draft = draft.push(edit).ok().map(|_| draft);
+                if draft.push(edit).is_err() {
+                    self.draft = None;
+                }
                 Ok(())
             }
             Some(Record::Closing { number, count })
                 if number == batch && count as usize == next && count > 0 => {
-                self.close_batch(&draft)
+                let whole = *draft;
+                self.close_batch(&whole)
             }
             _ => {
                 self.draft = None;
