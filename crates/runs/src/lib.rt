@@ -5,6 +5,8 @@ ghost use Rattle.std.specs.Prelude.{◌≡◌, ◌≤◌, map, length};
 ghost use Rattle.disk.specs.Losses.{AfterLoss, Blank};
 ghost use Rattle.runs.specs.Laws.{KeptBy, call_of};
 ghost use Rattle.runs.specs.Steps.{Stepped, disk_of};
+ghost use Rattle.runs.specs.declared.Call.TheVariants.{Apply, Commit, Open};
+ghost use Rattle.runs.specs.declared.Phase.TheVariants.{Editing, Idle};
 
 use boundary::Edit;
 use disk::Disk;
@@ -71,6 +73,33 @@ pub fn into_disk<D: Disk>(phase: Phase<D>) -> D
     }
 }
 
+// Opens a session on a disk.
+fn opened<D: Disk>(disk: D) -> (Phase<D>, Reply)
+    ensures { Stepped D.Disk.reads D.Disk.may D.Disk.did (Idle disk) Open result.0 result.1 }
+{
+    let (session, answer) = open(disk);
+    let shown = *session.solid();
+    let reply = answer.map_or_else(Reply::Refused, |count| Reply::Shown(count, shown));
+    (Phase::Opened(session), reply)
+}
+
+// An edit joins the batch, or is refused.
+fn edited<D: Disk>(mut batch: Batch<D>, edit: Edit) -> (Phase<D>, Reply)
+    ensures { Stepped D.Disk.reads D.Disk.may D.Disk.did (Editing batch) (Apply edit) result.0 result.1 }
+{
+    let reply = batch.edit(edit).map_or_else(Reply::Refused, Reply::Placed);
+    (Phase::Editing(batch), reply)
+}
+
+// The batch is committed, or dropped.
+fn committed<D: Disk>(batch: Batch<D>) -> (Phase<D>, Reply)
+    ensures { Stepped D.Disk.reads D.Disk.may D.Disk.did (Editing batch) Commit result.0 result.1 }
+{
+    let (session, answer) = batch.commit();
+    let reply = answer.map_or_else(Reply::Refused, Reply::Kept);
+    (Phase::Opened(session), reply)
+}
+
 // Makes one call. A phase that does not allow it stays, and nothing is done.
 fn make_call<S: Supply>(
     supply: &mut S,
@@ -80,22 +109,10 @@ fn make_call<S: Supply>(
     ensures { Stepped S.Make.Disk.reads S.Make.Disk.may S.Make.Disk.did phase call result.0 result.1 }
 {
     match (phase, call) {
-        (Phase::Idle(disk), Call::Open) => {
-            let (session, answer) = open(disk);
-            let shown = *session.solid();
-            let reply = answer.map_or_else(Reply::Refused, |count| Reply::Shown(count, shown));
-            (Phase::Opened(session), reply)
-        }
+        (Phase::Idle(disk), Call::Open) => opened(disk),
         (Phase::Opened(session), Call::Begin) => (Phase::Editing(session.begin()), Reply::Done),
-        (Phase::Editing(mut batch), Call::Apply(edit)) => {
-            let reply = batch.edit(edit).map_or_else(Reply::Refused, Reply::Placed);
-            (Phase::Editing(batch), reply)
-        }
-        (Phase::Editing(batch), Call::Commit) => {
-            let (session, answer) = batch.commit();
-            let reply = answer.map_or_else(Reply::Refused, Reply::Kept);
-            (Phase::Opened(session), reply)
-        }
+        (Phase::Editing(batch), Call::Apply(edit)) => edited(batch, edit),
+        (Phase::Editing(batch), Call::Commit) => committed(batch),
         (Phase::Editing(batch), Call::Abandon) => (Phase::Opened(batch.abandon()), Reply::Done),
         (Phase::Opened(session), Call::Close) => (Phase::Idle(session.close()), Reply::Done),
         (phase, Call::Lose) => (Phase::Idle(supply.next(into_disk(phase))), Reply::Done),
