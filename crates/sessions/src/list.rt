@@ -2,6 +2,9 @@
 use boundary::{Edit, Point};
 use runs::Call;
 
+// How many calls the list has.
+pub const LENGTH: usize = 63;
+
 // A shell, its face, the outer loop of that and on it a lone vertex.
 const POINT: Call = Call::Apply(Edit::Mvfs {
     shell: 0,
@@ -61,7 +64,7 @@ macro_rules! moved {
 }
 
 // The calls, in their order.
-pub const CALLS: [Call; 63] = [
+pub const CALLS: [Call; LENGTH] = [
     Call::Begin,
     Call::Open,
     Call::Commit,

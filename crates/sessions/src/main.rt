@@ -25,7 +25,7 @@ fn tell_all(rt: &HostRuntime, bench: &Bench, steps: &[Step]) -> io::Result<()> {
     let mut tally = Tally::new();
     let mut losses = bench.losses.iter();
     for step in steps {
-        let reply = Shown(step.reply);
+        let reply = Shown(&step.reply);
         if let Call::Lose = step.call {
             let loss = losses.next().unwrap_or(&bench::UNLISTED);
             let last = last_block(loss, tally);
@@ -41,10 +41,13 @@ fn tell_all(rt: &HostRuntime, bench: &Bench, steps: &[Step]) -> io::Result<()> {
 
 fn main(rt: HostRuntime) -> io::Result<()> {
     let stop = bench::FIRST_STOP;
-    let mut steps = list::CALLS.map(|call| Step {
-        call,
+    let mut steps = [Step {
+        call: Call::Open,
         reply: Reply::NotNow,
-    });
+    }; list::LENGTH];
+    for (step, call) in steps.iter_mut().zip(list::CALLS.iter()) {
+        step.call = *call;
+    }
     let mut bench = Bench {
         losses: bench::LOSSES,
     };

@@ -61,7 +61,7 @@ impl Display for Shown<Call> {
     }
 }
 
-impl Display for Shown<Reply> {
+impl Display for Shown<&Reply> {
     fn fmt<W: Write>(&self, f: &mut Formatter<W>) -> fmt::Result {
         match self.0 {
             Reply::NotNow => write!(f, "not now"),
