@@ -156,8 +156,7 @@ flattened (x ∷ f) = ap (λ l. two x ++ l) (flattened f)
 -- the kind and the spare byte, and the other parts put in one after another
 abbrev pub put_in : Block → List ℕ
 put_in b =
-    over 28 (four (complement b.at.z)) (over 24 (four (complement b.at.y)) (over 20 (four (complement b.at.x)) (over 18 (two b.gap) (over 8 (laid_fields b.fields)
-    (over 6 (two b.position) (over 2 (four b.number) (b.kind ∷ b.spare ∷ replicate 30 0)))))))
+    over 20 (laid_point b.at) (over 18 (two b.gap) (over 8 (laid_fields b.fields) (over 2 (four b.number ++ two b.position) (b.kind ∷ b.spare ∷ replicate 30 0))))
 
 pub put_laid : (b : Block) → length b.fields ≡ 5 → put_in b ≡ laid b
 put_laid b long = by_fields (λ c. put_in c ≡ laid c) b long refl

@@ -1,8 +1,8 @@
 // A record of the journal as a block of 32 bytes.
 #![tactic(auto)]
 
-ghost use Rattle.std.specs.Prelude.{◌≡◌, ◌+◌, ◌<◌, ◌≤◌, ◌++◌, map, Some, None, length, take, drop, slice_range};
-ghost use Rattle.records.specs.Blocks.{two, laid, two_at, four_at, fields_at, point_at};
+ghost use Rattle.std.specs.Prelude.{◌≡◌, ◌+◌, ◌<◌, ◌≤◌, ◌++◌, ◌∷◌, [], map, Some, None, length, take, drop, slice_range};
+ghost use Rattle.records.specs.Blocks.{two, four, complement, laid, two_at, four_at, fields_at, point_at};
 ghost use Rattle.records.specs.Examples.{Worked};
 ghost use Rattle.records.specs.Laws.{Fit, IsRecord, Parted, RecordsStand};
 ghost use Rattle.records.specs.Records.{kind_of, numbers_of, point_of, block_of, bytes_of, used_fields, has_point, zero_past, rest_zero, edit_of, numbered, record_of};
@@ -115,6 +115,16 @@ fn field_bytes(fields: [u16; 5]) -> [[u8; 2]; 5]
     ensures { result ≡ map two fields }
 {
     fields.map(u16::to_le_bytes)
+}
+
+// Each coordinate in four bytes, low byte first.
+fn point_bytes(at: Point) -> [[u8; 4]; 3]
+    ensures { result ≡ four (complement at.x) ∷ four (complement at.y) ∷ four (complement at.z) ∷ [] }
+{
+    let x = at.x.to_le_bytes();
+    let y = at.y.to_le_bytes();
+    let z = at.z.to_le_bytes();
+    [x, y, z]
 }
 
 // The `N` bytes from the byte `i` on.
@@ -238,21 +248,28 @@ impl Block {
         }
     }
 
+    // The batch number in four bytes and the position in two, low byte first.
+    fn place_bytes(self) -> [u8; 6]
+        ensures { result ≡ four self.number ++ two self.position }
+    {
+        let n = self.number.to_le_bytes();
+        let p = self.position.to_le_bytes();
+        [n[0], n[1], n[2], n[3], p[0], p[1]]
+    }
+
     // The bytes of the parts, each low byte first.
     fn bytes(self) -> [u8; 32]
         ensures { result ≡ laid self }
     {
         let fields = field_bytes(self.fields);
+        let point = point_bytes(self.at);
         let mut bytes = [0; 32];
         bytes[0] = self.kind;
         bytes[1] = self.spare;
-        put(&mut bytes, 2, &self.number.to_le_bytes());
-        put(&mut bytes, 6, &self.position.to_le_bytes());
+        put(&mut bytes, 2, &self.place_bytes());
         put(&mut bytes, 8, fields.as_flattened());
         put(&mut bytes, 18, &self.gap.to_le_bytes());
-        put(&mut bytes, 20, &self.at.x.to_le_bytes());
-        put(&mut bytes, 24, &self.at.y.to_le_bytes());
-        put(&mut bytes, 28, &self.at.z.to_le_bytes());
+        put(&mut bytes, 20, point.as_flattened());
         bytes
     }
 

@@ -1,9 +1,9 @@
 // The operators. Each decides its refusal from numbers that are in range, and then makes its change.
-ghost use Rattle.std.specs.Prelude.{◌≡◌, is_some, Some};
+ghost use Rattle.std.specs.Prelude.{◌≡◌, ◌+◌, ◌*◌, is_some, Some};
 ghost use Rattle.std.specs.Option.{unwrap_or};
 ghost use Rattle.std.specs.List.{position};
 ghost use Rattle.boundary.specs.Changes.{put_lone, emptied, led, joined, inner, merged};
-ghost use Rattle.boundary.specs.Operators.{mvfs, kvfs, face_in, mev, mev_before, mev_lone, kev, mef, past, spliced, kef, kemr, led_place, onward, mekr, connected, kfmrh, move};
+ghost use Rattle.boundary.specs.Operators.{edge, half_edge, mvfs, kvfs, face_in, mev, mev_before, mev_lone, kev, mef, past, spliced, kef, kemr, led_place, onward, mekr, connected, kfmrh, move};
 ghost use Rattle.boundary.specs.Refusals.{mvfs_refusal, kvfs_refusal, mev_refusal, kev_refusal, mef_refusal, kef_refusal, kemr_refusal, mekr_refusal, kfmrh_refusal, move_refusal, place_used, has_vertex, are_joinable};
 ghost use Rattle.boundary.specs.Tables.{row, half, half_used, lone, outer_of, loop_face, face_shell, place_loop, place_vertex, faces_in, loops_in, in_row, in_shell};
 ghost use Rattle.solid.specs.Steps.{Decided};
@@ -460,17 +460,8 @@ impl Solid {
         self.join(inner, outer);
         self.lead_place(a, k.even());
         self.lead_place(c, k.odd());
-        let even = HalfEdge {
-            start: v,
-            next: onward(c, k.odd()),
-            owner: outer,
-        };
-        let odd = HalfEdge {
-            start: w,
-            next: onward(a, k.even()),
-            owner: outer,
-        };
-        set(&mut self.boundary.edges, k.number, Some(Edge { even, odd }));
+        let edge = bridge(a, c, v, w, k, outer);
+        set(&mut self.boundary.edges, k.number, Some(edge));
         self.put_lone(outer, None);
         set(&mut self.boundary.loops, inner, None);
     }
@@ -550,6 +541,24 @@ fn first_face(faces: &[Option<Face>], shell: u16) -> Option<usize>
     faces
         .iter()
         .position(|row| row.is_some_and(|face| face.shell == shell))
+}
+
+// The edge on the loop `owner` that leads from the vertex `v` of the place `a` to the vertex `w` of the place `c`.
+fn bridge(a: u16, c: u16, v: u16, w: u16, k: EdgeNumber, owner: u16) -> Edge
+    ensures { result ≡ edge (half_edge v (onward c (2 * k.number + 1)) owner) (half_edge w (onward a (2 * k.number)) owner) }
+{
+    Edge {
+        even: HalfEdge {
+            start: v,
+            next: onward(c, k.odd()),
+            owner,
+        },
+        odd: HalfEdge {
+            start: w,
+            next: onward(a, k.even()),
+            owner,
+        },
+    }
 }
 
 // The half-edge of a place, or `x` at a lone vertex.
