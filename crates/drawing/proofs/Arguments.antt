@@ -26,7 +26,7 @@ module _ (N i : ℕ) (all : List ℤ) (ts : List Part) (r : Option (List ℤ)) (
     more_left : N ≤ i → None ≡ r
     more_left h = let none : N - i ≡ 0 = omega arith in rw (none, e) at sofar
 
-  all_taken : N ≤ i → length all ≡ N → ts ≡ [] → Some all ≡ r
+  pub all_taken : N ≤ i → length all ≡ N → ts ≡ [] → Some all ≡ r
   all_taken h long e =
       let none : N - i ≡ 0 = omega arith in
       rw (none, e, take_all i all (omega arith), append-nil all) at sofar

@@ -28,5 +28,9 @@ cut_length c (b ∷ bs) = go (eqb b c) (cut_length c bs)
     go false h = omega (arith, longer (cut c bs))
 
 -- so many lines that their numbers fit
-pub few_lines : (bs : List ℕ) (n : ℕ) → length bs ≤ 32768 → n ≡ length (lines bs) → 0 + n < 2 ^ 64
-few_lines bs n h is = omega (arith, cut_length 10 bs, is)
+pub few_lines : (bs : List ℕ) → length bs ≤ 32768 → 1 + length (lines bs) ≤ 32770
+few_lines bs h = omega (arith, cut_length 10 bs)
+
+-- and so their count fits
+pub countable : (bs : List ℕ) (n : ℕ) → length bs ≤ 32768 → n ≡ length (lines bs) → 0 + n < 2 ^ 64
+countable bs n h is = omega (arith, few_lines bs h, is)

@@ -86,7 +86,7 @@ next n (b ∷ bs) some none = go (eqb b 32) refl none
     go false e z = rw (split 32 bs, one-add (before 32 bs), ← on (n + suc (before 32 bs)) bs, length-take-le (before 32 bs) bs (prefix_len-le-length _ bs))
 
 -- the texts of the tokens are the words
-texts : (n : ℕ) (ps : List (List ℕ)) → map (λ p. p.text) (placed n ps) ≡ filled ps
+pub texts : (n : ℕ) (ps : List (List ℕ)) → map (λ p. p.text) (placed n ps) ≡ filled ps
 texts n [] = refl
 texts n ([] ∷ ps) = texts (n + 1) ps
 texts n ((b ∷ p) ∷ ps) = ap (λ x. (b ∷ p) ∷ x) (texts (n + length (b ∷ p) + 1) ps)

@@ -5,7 +5,7 @@ use Rattle.listing.specs.Listing.{listed}
 use Rattle.words.specs.Words.{lines}
 use Rattle.words.specs.Left.{lines_left}
 use Rattle.drawing.specs.Drawing.{line_shown}
-use Rattle.drawing.proofs.Turns.{few_lines, line_more, drawn_all}
+use Rattle.drawing.proofs.Turns.{countable, line_more, drawn_all}
 use Rattle.drawing.proofs.draw_lines.Goals as goal
 
 pub loop-index-init : goal.loop-index-init
@@ -14,7 +14,7 @@ loop-index-init c =
     let count = ap enumerate_count made ∙ c.enumerate-index-items.ensures.count in
     let left : lines_left (enumerate_source c.into_iter-index-iterator.result) ≡ lines c.args.input.now = ap lines_left (ap enumerate_source made ∙ c.enumerate-index-items.ensures.source) ∙ c.new.ensures in
     record {
-      can = (tt, tt, inl (rw count (few_lines c.args.input.now _ c.requires (ap length left))));
+      can = (tt, tt, inl (rw count (countable c.args.input.now _ c.requires (ap length left))));
       ends = tt;
       sofar = rw (c.new-out.ensures.bytes, c.empty-solid.ensures, count, left) refl;
     }
